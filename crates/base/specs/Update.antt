@@ -25,17 +25,20 @@ module _ {A : Type 0} where
   upd-other f i a j h = rw (ne-eqb j i h)
 
   pub upd-upd : (f : ℕ → A) (i : ℕ) (a b : A) → upd (upd f i a) i b ≡ upd f i b
-  upd-upd f i a b = fun-ext λ j. elim (ℕ-discrete j i)
-    [ yes z ↦ rw (z, upd-same (upd f i a) i b, upd-same f i b)
-    | no z ↦ upd-other (upd f i a) i b j z ∙ upd-other f i a j z ∙ sym (upd-other f i b j z) ]
+  upd-upd f i a b = fun-ext λ j. elim (ℕ-discrete j i) [
+    | yes z ↦ rw (z, upd-same (upd f i a) i b, upd-same f i b)
+    | no z ↦ upd-other (upd f i a) i b j z ∙ upd-other f i a j z ∙ sym (upd-other f i b j z)
+  ]
 
   pub upd-id : (f : ℕ → A) (i : ℕ) (a : A) → a ≡ f i → upd f i a ≡ f
-  upd-id f i a h = fun-ext λ j. elim (ℕ-discrete j i)
-    [ yes z ↦ rw (z, upd-same f i a) h
-    | no z ↦ upd-other f i a j z ]
+  upd-id f i a h = fun-ext λ j. elim (ℕ-discrete j i) [
+    | yes z ↦ rw (z, upd-same f i a) h
+    | no z ↦ upd-other f i a j z
+  ]
 
 -- a store to an array
 pub upd-set : (l : List ℕ) (i v : ℕ) → i < length l → bytes (set l i v) ≡ upd (bytes l) i v
-upd-set l i v h = fun-ext λ j. elim (ℕ-discrete j i)
-  [ yes z ↦ rw z (getD-set-same l i v 0 h ∙ sym (upd-same (bytes l) i v))
-  | no z ↦ getD-set-other l i j v 0 z ∙ sym (upd-other (bytes l) i v j z) ]
+upd-set l i v h = fun-ext λ j. elim (ℕ-discrete j i) [
+  | yes z ↦ rw z (getD-set-same l i v 0 h ∙ sym (upd-same (bytes l) i v))
+  | no z ↦ getD-set-other l i j v 0 z ∙ sym (upd-other (bytes l) i v j z)
+]

@@ -110,7 +110,12 @@ pub fn get_u16(s: &[u8], a: usize) -> u16
 pub fn get_u32(s: &[u8], a: usize) -> u32
     ensures { λ r. ⌜ r ≡ numAt (bytes (now (s .entry))) a 4 ⌝ }
 {
-    join4(get_past(s, a, 0), get_past(s, a, 1), get_past(s, a, 2), get_past(s, a, 3))
+    join4(
+        get_past(s, a, 0),
+        get_past(s, a, 1),
+        get_past(s, a, 2),
+        get_past(s, a, 3),
+    )
 }
 
 // The same where the slice is known to reach: no test at run time.

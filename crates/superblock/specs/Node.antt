@@ -25,9 +25,14 @@ pub record Node : Type 0 where
 
 -- an inode in 64 bytes
 unfoldable pub nodeIn : Bytes → Node
-nodeIn f = record
-  { kind = get f 0 2; major = get f 2 2; minor = get f 4 2; nlink = get f 6 2; size = get f 8 4
-  ; addr = λ p. cond (ltb p 13) (get f (12 + 4 * p) 4) 0 }
+nodeIn f = record {
+  kind = get f 0 2;
+  major = get f 2 2;
+  minor = get f 4 2;
+  nlink = get f 6 2;
+  size = get f 8 4;
+  addr = λ p. cond (ltb p 13) (get f (12 + 4 * p) 4) 0;
+}
 
 -- byte k of a record of which only the addresses are written, from byte 12 on
 unfoldable pub addrBytes : (ℕ → ℕ) → Bytes
@@ -68,10 +73,14 @@ if-cong p n x y h = elim (decLt p n) [ yes l ↦ ap (λ (t : ℕ). cond (ltb p n
 
 pub nodeIn-cong : (f h : Bytes) → ((k : ℕ) → k < 64 → f k ≡ h k) → nodeIn f ≡ nodeIn h
 unfolding nodeIn
-nodeIn-cong f h e = λ t. record
-  { kind = get-cong f h 0 2 e (omega arith) t; major = get-cong f h 2 2 e (omega arith) t
-  ; minor = get-cong f h 4 2 e (omega arith) t; nlink = get-cong f h 6 2 e (omega arith) t; size = get-cong f h 8 4 e (omega arith) t
-  ; addr = λ p. if-cong p 13 (get f (12 + 4 * p) 4) (get h (12 + 4 * p) 4) (λ l. get-cong f h (12 + 4 * p) 4 e (omega arith)) t }
+nodeIn-cong f h e = λ t. record {
+  kind = get-cong f h 0 2 e (omega arith) t;
+  major = get-cong f h 2 2 e (omega arith) t;
+  minor = get-cong f h 4 2 e (omega arith) t;
+  nlink = get-cong f h 6 2 e (omega arith) t;
+  size = get-cong f h 8 4 e (omega arith) t;
+  addr = λ p. if-cong p 13 (get f (12 + 4 * p) 4) (get h (12 + 4 * p) 4) (λ l. get-cong f h (12 + 4 * p) 4 e (omega arith)) t;
+}
 
 -- each number of the inode fits its place
 pub record Fits (r : Node) : Type 0 where
@@ -95,14 +104,15 @@ addr-get f p h = le-cong 4 (λ k. addrBytes f (12 + 4 * p + k)) (digit (f p)) by
 
 pub nodeIn-encoded : (r : Node) → Fits r → nodeIn (encoded r) ≡ r
 unfolding nodeIn encoded
-nodeIn-encoded r e = λ t. record
-  { kind = (get-same d₁ 0 2 (digit (r .kind)) ∙ le-digit 2 (r .kind) (e .kind)) t
-  ; major = (get-other d₁ 0 2 (digit (r .kind)) 2 2 (omega arith) ∙ get-same d₂ 2 2 (digit (r .major)) ∙ le-digit 2 (r .major) (e .major)) t
-  ; minor = (get-other d₁ 0 2 (digit (r .kind)) 4 2 (omega arith) ∙ get-other d₂ 2 2 (digit (r .major)) 4 2 (omega arith) ∙ get-same d₃ 4 2 (digit (r .minor)) ∙ le-digit 2 (r .minor) (e .minor)) t
-  ; nlink = (get-other d₁ 0 2 (digit (r .kind)) 6 2 (omega arith) ∙ get-other d₂ 2 2 (digit (r .major)) 6 2 (omega arith) ∙ get-other d₃ 4 2 (digit (r .minor)) 6 2 (omega arith)
-      ∙ get-same d₄ 6 2 (digit (r .nlink)) ∙ le-digit 2 (r .nlink) (e .nlink)) t
-  ; size = (past 8 4 (omega arith) ∙ get-same d₅ 8 4 (digit (r .size)) ∙ le-digit 4 (r .size) (e .size)) t
-  ; addr = λ p. address p t }
+nodeIn-encoded r e = λ t. record {
+  kind = (get-same d₁ 0 2 (digit (r .kind)) ∙ le-digit 2 (r .kind) (e .kind)) t;
+  major = (get-other d₁ 0 2 (digit (r .kind)) 2 2 (omega arith) ∙ get-same d₂ 2 2 (digit (r .major)) ∙ le-digit 2 (r .major) (e .major)) t;
+  minor = (get-other d₁ 0 2 (digit (r .kind)) 4 2 (omega arith) ∙ get-other d₂ 2 2 (digit (r .major)) 4 2 (omega arith) ∙ get-same d₃ 4 2 (digit (r .minor)) ∙ le-digit 2 (r .minor) (e .minor)) t;
+  nlink = (get-other d₁ 0 2 (digit (r .kind)) 6 2 (omega arith) ∙ get-other d₂ 2 2 (digit (r .major)) 6 2 (omega arith) ∙ get-other d₃ 4 2 (digit (r .minor)) 6 2 (omega arith)
+      ∙ get-same d₄ 6 2 (digit (r .nlink)) ∙ le-digit 2 (r .nlink) (e .nlink)) t;
+  size = (past 8 4 (omega arith) ∙ get-same d₅ 8 4 (digit (r .size)) ∙ le-digit 4 (r .size) (e .size)) t;
+  addr = λ p. address p t;
+}
   where
     d₅ : Bytes
     d₅ = addrBytes (r .addr)
@@ -125,18 +135,22 @@ nodeIn-encoded r e = λ t. record
         ∙ get-other d₃ 4 2 (digit (r .minor)) a n (omega arith) ∙ get-other d₄ 6 2 (digit (r .nlink)) a n (omega arith)
 
     address : (p : ℕ) → cond (ltb p 13) (get (put d₁ 0 2 (digit (r .kind))) (12 + 4 * p) 4) 0 ≡ r .addr p
-    address p = elim (decLt p 13)
-      [ yes l ↦ rw (lt-ltb p 13 l) (past (12 + 4 * p) 4 (omega arith) ∙ get-other d₅ 8 4 (digit (r .size)) (12 + 4 * p) 4 (omega arith) ∙ addr-get (r .addr) p (e .addr p l))
-      | no l ↦ rw (le-ltb p 13 (omega arith)) (sym (e .none p (omega arith))) ]
+    address p = elim (decLt p 13) [
+      | yes l ↦ rw (lt-ltb p 13 l) (past (12 + 4 * p) 4 (omega arith) ∙ get-other d₅ 8 4 (digit (r .size)) (12 + 4 * p) 4 (omega arith) ∙ addr-get (r .addr) p (e .addr p l))
+      | no l ↦ rw (le-ltb p 13 (omega arith)) (sym (e .none p (omega arith)))
+    ]
 
 pub if-lt : (p n x m : ℕ) → x < m → cond (ltb p n) x 0 < m
 if-lt p n x m h = elim (decLt p n) [ yes l ↦ rw (lt-ltb p n l) h | no l ↦ rw (le-ltb p n (omega arith)) (omega arith) ]
 
 pub nodeIn-fits : (f : Bytes) → ((k : ℕ) → f k < 256) → Fits (nodeIn f)
 unfolding nodeIn
-nodeIn-fits f h = record
-  { kind = le-lt 2 (λ k. f (0 + k)) (λ k. h (0 + k)); major = le-lt 2 (λ k. f (2 + k)) (λ k. h (2 + k)); minor = le-lt 2 (λ k. f (4 + k)) (λ k. h (4 + k))
-  ; nlink = le-lt 2 (λ k. f (6 + k)) (λ k. h (6 + k)); size = le-lt 4 (λ k. f (8 + k)) (λ k. h (8 + k))
-  ; addr = λ p _. if-lt p 13 (get f (12 + 4 * p) 4) 4294967296 (le-lt 4 (λ k. f (12 + 4 * p + k)) (λ k. h (12 + 4 * p + k)))
-  ; none = λ p l. rw (le-ltb p 13 l) }
-
+nodeIn-fits f h = record {
+  kind = le-lt 2 (λ k. f (0 + k)) (λ k. h (0 + k));
+  major = le-lt 2 (λ k. f (2 + k)) (λ k. h (2 + k));
+  minor = le-lt 2 (λ k. f (4 + k)) (λ k. h (4 + k));
+  nlink = le-lt 2 (λ k. f (6 + k)) (λ k. h (6 + k));
+  size = le-lt 4 (λ k. f (8 + k)) (λ k. h (8 + k));
+  addr = λ p _. if-lt p 13 (get f (12 + 4 * p) 4) 4294967296 (le-lt 4 (λ k. f (12 + 4 * p + k)) (λ k. h (12 + 4 * p + k)));
+  none = λ p l. rw (le-ltb p 13 l);
+}

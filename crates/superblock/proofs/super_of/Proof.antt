@@ -32,13 +32,13 @@ get-u32-requires-6 c κs = search needs
 -- src/lib.rt:29:1
 returns : tie.Need-returns
 returns c = λ i. record {
-    size = c .before .before .before .before .before .get-u32 .ensures i;
-    nblocks = c .before .before .before .before .get-u322 .ensures i;
-    ninodes = c .before .before .before .get-u323 .ensures i;
-    nlog = c .before .before .get-u324 .ensures i;
-    inodestart = c .before .get-u325 .ensures i;
-    bmapstart = c .get-u326 .ensures i;
-  }
+  size = c .before .before .before .before .before .get-u32 .ensures i;
+  nblocks = c .before .before .before .before .get-u322 .ensures i;
+  ninodes = c .before .before .before .get-u323 .ensures i;
+  nlog = c .before .before .get-u324 .ensures i;
+  inodestart = c .before .get-u325 .ensures i;
+  bmapstart = c .get-u326 .ensures i;
+}
 
 pub super-of-spec : {M : Type 1} → statement M
 super-of-spec =

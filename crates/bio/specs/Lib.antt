@@ -1,0 +1,3 @@
+-- The buffer table: which block is where, and what is seen through it.
+pub mod Among
+pub mod Seen

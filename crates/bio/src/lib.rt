@@ -1,0 +1,30 @@
+// The buffer table (bio.rs): 30 buffers of 1,024 bytes in lent memory of 30,720. The Rust's linked raw pointers are numbers in a table by value.
+ghost use mathlib.Core.Path.{_≡_};
+ghost use Prim.Native.Nat.{ℕ, _+_, _*_, _<_, _≤_};
+ghost use lib.ListN.{length, getD};
+ghost use Rattle.base.specs.Bytes.{bytes};
+ghost use Rattle.bio.specs.Seen.{bufferOf, seen};
+
+// For each buffer its block and its references; and the buffers, most recently released first. A buffer that holds nothing has a block
+// number that no card has.
+pub struct Table {
+    pub blocks: [u32; 30],
+    pub counts: [u32; 30],
+    pub order: [u32; 30],
+}
+
+// The buffer that holds a block, or 30.
+pub fn buffer_of<'b>(blocks: &'b [u32; 30], counts: &'b [u32; 30], b: u32) -> usize
+    ensures { λ r. ⌜ r ≡ bufferOf (now (blocks .entry)) (now (counts .entry)) b ⌝ }
+{
+    let mut j: usize = 0;
+    while j < 30 {
+        if blocks[j] == b {
+            if 0 < counts[j] {
+                return j;
+            }
+        }
+        j += 1;
+    }
+    30
+}
