@@ -1,10 +1,10 @@
 -- One bit of a byte, as 0 or 1: `bitAt` reads it, `withBit` changes it and leaves every other as it was. The code's shifts and masks are these.
 -- Assumes nothing.
-use mathlib.Core.Path.{_≡_, refl, sym, ap, ap₂, _∙_}
+use mathlib.Core.Path.{_≡_, refl, sym, ap, _∙_}
 use mathlib.Core.Logic.{_≢_}
-use Prim.Native.Nat.{ℕ, zero, suc, _+_, _-_, _*_, _/_, _%_, _^_, _≤_, _<_, min, max}
+use Prim.Native.Nat.{ℕ, zero, suc, _+_, _-_, _*_, _/_, _%_, _^_, _<_}
 use native.Mathlib.Omega.{arith}
-use native.Mathlib.Nat.{pow-suc, div-div-eq-div-mul, mul-comm, mod-eq-of-lt}
+use native.Mathlib.Nat.{pow-suc, div-div-eq-div-mul, mod-eq-of-lt}
 use lib.Pow.{pow-lt, pow-pos}
 use lib.Bits.{bitOr, bitAnd, or-step, and-step, or-zero-r, and-mask}
 

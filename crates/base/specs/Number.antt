@@ -1,11 +1,11 @@
 -- Numbers in memory, little-endian: one recursion serves u16 and u32. `le` makes a number of bytes, `digit` the bytes of a number, `get` reads
 -- one at an address; what a `put` does to a `get` is said by `get-same`, `get-part` and `get-other`. Assumes nothing.
 use mathlib.Core.Path.{_≡_, refl, sym, ap, _∙_}
-use Prim.Native.Nat.{ℕ, zero, suc, _+_, _-_, _*_, _/_, _%_, _^_, _≤_, _<_}
+use Prim.Native.Nat.{ℕ, zero, suc, _+_, _*_, _/_, _%_, _^_, _≤_, _<_}
 use native.Mathlib.Omega.{arith}
 use native.Mathlib.Nat.{pow-suc}
 use mathlib.Core.List.{List}
-use lib.ListN.{getD, length, set, length-set}
+use lib.ListN.{length, set, length-set}
 use Rattle.base.specs.Bytes.{Bytes, bytes, put, put-in, put-out, put-none, store-more}
 
 -- the number that f 0, f 1, .., f (n - 1) are, the lowest byte first

@@ -1,3 +1,4 @@
+-- `base::put_u16` meets its contract. Two stores in a row are one `put`: `set-two`. Assumes nothing.
 use native.Mathlib.Omega.{arith}
 use lib.ListN.{length-set}
 use denote.Ref.{now}
@@ -5,34 +6,25 @@ use Rattle.base.specs.Number.{digit, set-two}
 use borrow.Author.Needs.{needs}
 use Rattle.base.proofs.put_u16.Statement.{statement}
 use Rattle.base.proofs.put_u16.Tie as tie
-use Rattle.base.proofs.put_u16.Reads as reads
-use Rattle.base.proofs.put_u16.Lts as lts
 
--- src/lib.rt:136:14
 cast-dst : tie.Need-cast-dst
 cast-dst c = search needs
 
--- src/lib.rt:136:5
 slice-write-dst : tie.Need-slice-write-dst
 slice-write-dst c = search needs
 
--- src/lib.rt:137:18
 cast-dst-2 : tie.Need-cast-dst-2
 cast-dst-2 c = search needs
 
--- src/lib.rt:137:9
 add-dst : tie.Need-add-dst
 add-dst c = search needs
 
--- src/lib.rt:137:5
 slice-write-dst-2 : tie.Need-slice-write-dst-2
 slice-write-dst-2 c = simp length-set (omega arith)
 
--- src/lib.rt:132:1
 same-length : tie.Need-same-length
 same-length c = search needs
 
--- src/lib.rt:132:1
 returns : tie.Need-returns
 unfolding digit
 returns c = set-two (now (c .args .dst)) (c .args .a) (digit (c .args .v)) (omega arith)
