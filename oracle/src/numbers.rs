@@ -1,0 +1,2 @@
+//! placeholder
+pub fn of_cache_steps(text: &str) -> String { unimplemented!() }
