@@ -10,9 +10,6 @@
 //!
 //! ORACLE_LEAVE_OUT=NAME leaves the hunks of one mend out of the patch (used by oracle/mends).
 
-#[path = "src/sha256.rs"]
-mod sha256;
-
 use std::env;
 use std::fs;
 use std::io::Write;
@@ -36,7 +33,7 @@ fn main() {
     for variable in ["ORACLE_SRC", "ORACLE_LEAVE_OUT", "ORACLE_NINDIRECT"] {
         println!("cargo:rerun-if-env-changed={}", variable);
     }
-    for path in ["published.sha256", "supplied", "src/sha256.rs", "../docs/mended.patch"] {
+    for path in ["published.sha256", "supplied", "../docs/mended.patch"] {
         println!("cargo:rerun-if-changed={}", here.join(path).display());
     }
     println!("cargo:rerun-if-changed={}", source.display());

@@ -3,7 +3,6 @@
 
 use std::sync::Mutex;
 
-use crate::sha256;
 
 pub const BLOCK: usize = 1024;
 const MAGIC: u32 = 0x10203040;

@@ -42,7 +42,6 @@ mod caught;
 mod generate;
 mod numbers;
 mod script;
-mod sha256;
 
 use std::io::Read;
 

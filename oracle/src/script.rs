@@ -19,7 +19,6 @@ use crate::card::{self, BLOCK};
 use crate::fs::window::{self, Stat};
 use crate::fs::{self, Buf, Inode, InodeType, BCACHE, ICACHE, LOG};
 use crate::process::{self, CPU_MANAGER};
-use crate::sha256;
 
 /// Longest read or data that a line may ask for: past the largest file, and small enough to hold.
 const LONGEST: u32 = 1 << 20;
