@@ -5,6 +5,7 @@
 
 use std::cell::{Cell, RefCell};
 use std::panic::{catch_unwind, AssertUnwindSafe};
+use std::sync::atomic::Ordering;
 
 use crate::process::WouldSleep;
 
@@ -51,8 +52,12 @@ pub fn install() {
 }
 
 /// A panic while another unwinds would end the process. This thread is given up as it stands, and another one
-/// reads the rest of the script, with no volume until it mounts one.
+/// reads the rest of the script, with no volume until it mounts one. A script that is generated or compared ends there.
 fn go_on_elsewhere(answer: &str) -> ! {
+    if !crate::script::ANSWERING.load(Ordering::Relaxed) {
+        eprintln!("oracle: {}", answer);
+        std::process::exit(3);
+    }
     std::println!("{}", answer);
     let done = std::thread::spawn(crate::script::run_rest).join();
     std::process::exit(if done.is_ok() { 0 } else { 1 });

@@ -187,11 +187,14 @@ struct Files {
     directories: Vec<(String, u32)>,
     /// Paths of files, with their open handles and their size.
     files: Vec<(String, Vec<u32>, u32)>,
+    /// Paths of devices. A create of a file there opens the device, whose handle is then used for stat alone:
+    /// the Rust reads and writes devices, document 01 does not.
+    devices: Vec<String>,
 }
 
 impl Files {
     fn new(nlog: u32, room: u32, longest: u32) -> Files {
-        Files { nlog, room, longest, directories: Vec::new(), files: Vec::new() }
+        Files { nlog, room, longest, directories: Vec::new(), files: Vec::new(), devices: Vec::new() }
     }
 }
 
@@ -213,17 +216,39 @@ fn room_in_log(maker: &mut Maker, files: &Files) -> bool {
     open > 0 && recorded + 9 <= files.nlog.min(30) - 2
 }
 
+/// Another spelling of a path now and then: slashes doubled or at the end, "." in between, or from a directory's handle.
+fn spelt(maker: &mut Maker, files: &Files, path: &str) -> String {
+    let (parent, name) = path.rsplit_once('/').unwrap();
+    match maker.below(10) {
+        0 => format!("/{}/", path),
+        1 => format!("{}/.//{}", parent, name),
+        2 => {
+            let handle = files.directories.iter().find(|(known, _)| known == parent).unwrap().1;
+            maker.line(format!("cwd {}", handle));
+            name.to_string()
+        }
+        3 => {
+            // Down into a directory and up again, or nowhere at all where none is there.
+            let below = maker.pick(&files.directories).0;
+            let ups = "/..".repeat(below.matches('/').count());
+            format!("{}{}{}", below, ups, path)
+        }
+        _ => path.to_string(),
+    }
+}
+
 fn create(maker: &mut Maker, files: &mut Files) {
     let parent = maker.pick(&files.directories).0;
     let path = format!("{}/{}", parent, a_name(maker));
     let kind = if maker.chance(20) { 1 } else { maker.pick(&[2, 2, 2, 3]) };
     // A directory takes a block, and so may its parent.
-    if files.room < 2 || files.directories.len() + files.files.len() > 12 {
+    if files.room < 2 || files.directories.len() + files.files.len() + files.devices.len() > 12 {
         return;
     }
+    let spelt = spelt(maker, files, &path);
     let answer = match kind {
-        3 => maker.line(format!("create {} 3 {} {}", path, 7, -1)),
-        _ => maker.line(format!("create {} {}", path, kind)),
+        3 => maker.line(format!("create {} 3 {} {}", spelt, 7, -1)),
+        _ => maker.line(format!("create {} {}", spelt, kind)),
     };
     // The Rust cuts a component at 14 bytes, so the path that was made is the cut one.
     let cut = format!("{}/{}", parent, path.rsplit('/').next().unwrap().chars().take(14).collect::<String>());
@@ -231,9 +256,13 @@ fn create(maker: &mut Maker, files: &mut Files) {
         files.room -= 2;
         if let Some(known) = files.files.iter_mut().find(|(other, _, _)| *other == cut) {
             known.1.push(handle);
+        } else if kind == 3 || files.devices.contains(&cut) {
+            maker.line(format!("stat {}", handle));
+            maker.line(format!("close {}", handle));
+            files.devices.push(cut);
         } else if kind == 1 {
             files.directories.push((cut, handle));
-        } else if kind == 2 {
+        } else {
             files.files.push((cut, vec![handle], 0));
         }
     }
@@ -324,7 +353,8 @@ fn open_or_close(maker: &mut Maker, files: &mut Files) {
         let handle = files.files[which].1.pop().unwrap();
         maker.line(format!("close {}", handle));
     } else {
-        let answer = maker.line(format!("open {}", files.files[which].0));
+        let spelt = spelt(maker, files, &files.files[which].0.clone());
+        let answer = maker.line(format!("open {}", spelt));
         files.files[which].1.push(handle_of(&answer).expect("a file that was made"));
     }
     maker.say("slots");

@@ -7,6 +7,7 @@
 //! PROGRAM [FILE]                      answers the script in FILE or on standard input, line by line
 //! PROGRAM generate KIND SEED COUNT    writes a random script (see generate.rs)
 //! PROGRAM numbers [FILE]              answers a script of cache steps in numbers (see numbers.rs)
+//! PROGRAM compare FILE ANSWERS        compares another program's answers with its own (see compare.rs)
 
 // The published text is compiled as it stands, so its warnings are not ours to mend.
 #![allow(warnings)]
@@ -39,6 +40,7 @@ pub mod process;
 
 mod card;
 mod caught;
+mod compare;
 mod generate;
 mod numbers;
 mod script;
@@ -56,10 +58,15 @@ fn main() {
         }
         ["numbers"] => std::print!("{}", numbers::of_cache_steps(&read_script(None))),
         ["numbers", file] => std::print!("{}", numbers::of_cache_steps(&read_script(Some(file)))),
+        ["compare", file, answers] => {
+            let verdict = compare::with_answers(&read_script(Some(file)), &read_script(Some(answers)));
+            std::print!("{}", verdict.report);
+            std::process::exit(if verdict.differing > 0 { 1 } else { 0 });
+        }
         [] => script::run(&read_script(None)),
         [file] => script::run(&read_script(Some(file))),
         _ => {
-            eprintln!("usage: PROGRAM [FILE] | generate KIND SEED COUNT | numbers [FILE]");
+            eprintln!("usage: PROGRAM [FILE] | generate KIND SEED COUNT | numbers [FILE] | compare FILE ANSWERS");
             std::process::exit(2);
         }
     }

@@ -34,13 +34,6 @@ impl Process {
         std::panic::panic_any(WouldSleep);
     }
 
-    /// Do relative paths start from this slot?
-    pub fn starts_from(&mut self, handle: &Inode) -> bool {
-        let resources = self.data.get_mut().resources.as_ref().unwrap().clone();
-        let starts = resources.acquire().cwd.as_ref().map_or(false, |cwd| cwd.index == handle.index);
-        starts
-    }
-
     /// Sets where relative paths start, as a copy that holds no reference of its own.
     pub fn lend_cwd(&mut self, handle: Option<&Inode>) {
         let lent = handle.map(|inode| Inode { dev: inode.dev, inum: inode.inum, index: inode.index });

@@ -11,6 +11,7 @@
 use std::collections::VecDeque;
 use std::io::Write;
 use std::mem;
+use std::sync::atomic::{AtomicBool, Ordering};
 use std::sync::Mutex;
 
 use crate::arch::riscv::qemu::fs::{NBUF, ROOTDEV};
@@ -36,17 +37,25 @@ enum Life {
 
 pub struct Script {
     life: Life,
-    /// The handles given since mount; None once closed.
-    handles: Vec<Option<Inode>>,
+    /// The handles given since mount, as document 01 has them: a slot and an inode number.
+    handles: Vec<(usize, u32)>,
+    /// The Rust's own values behind them, one for each reference. A handle is good while one of these has its slot
+    /// and inode number, whichever open gave it.
+    live: Vec<Inode>,
+    /// The handle that relative paths start from.
+    cwd: Option<u32>,
     /// Buffers held by `cget`, by index.
     held: Vec<Option<Buf<'static>>>,
 }
 
 /// The lines not yet answered. Static, so that another thread can go on after a panic while unwinding.
 static REST: Mutex<VecDeque<String>> = Mutex::new(VecDeque::new());
+/// Set while a script is answered, and not while one is generated or compared.
+pub static ANSWERING: AtomicBool = AtomicBool::new(false);
 
 /// Answers a whole script on standard output.
 pub fn run(text: &str) {
+    ANSWERING.store(true, Ordering::Relaxed);
     REST.lock().unwrap().extend(text.lines().map(str::to_string));
     run_rest();
 }
@@ -72,7 +81,13 @@ type Answer = Result<String, String>;
 
 impl Script {
     pub fn new() -> Self {
-        Script { life: Life::NoVolume, handles: Vec::new(), held: (0..NBUF).map(|_| None).collect() }
+        Script {
+            life: Life::NoVolume,
+            handles: Vec::new(),
+            live: Vec::new(),
+            cwd: None,
+            held: (0..NBUF).map(|_| None).collect(),
+        }
     }
 
     /// The answer to one line; None for an empty line or a comment.
@@ -142,6 +157,7 @@ impl Script {
             ["create", name, kind, major, minor] => self.create(name, kind, major, minor),
             ["open", name] => {
                 let bytes = path(name)?;
+                self.lend_cwd();
                 Ok(match caught::call(|| ICACHE.namei(&bytes)) {
                     Ok(Some(inode)) => self.given(inode),
                     Ok(None) => "none".to_string(),
@@ -150,8 +166,9 @@ impl Script {
             }
             ["close", handle] => self.close(number(handle)?),
             ["cwd", handle] => {
-                let inode = self.handle(number(handle)?)?;
-                unsafe { CPU_MANAGER.myproc().unwrap().lend_cwd(Some(inode)) };
+                let handle = number(handle)?;
+                self.handle(handle)?;
+                self.cwd = Some(handle);
                 Ok("ok".to_string())
             }
             ["truncate", handle] => {
@@ -206,8 +223,10 @@ impl Script {
     /// Makes every static as at boot. What was held before belongs to a machine that is gone, so it is
     /// forgotten: dropping it would give back references that the new tables never gave.
     fn start_anew(&mut self) {
-        for handle in self.handles.drain(..) {
-            mem::forget(handle);
+        self.handles.clear();
+        self.cwd = None;
+        for inode in self.live.drain(..) {
+            mem::forget(inode);
         }
         for buf in self.held.iter_mut() {
             mem::forget(buf.take());
@@ -280,6 +299,7 @@ impl Script {
         };
         let signed = |word: &str| word.parse::<i16>().map_err(|_| format!("{} is no i16", word));
         let (major, minor) = (signed(major)?, signed(minor)?);
+        self.lend_cwd();
         Ok(match caught::call(|| ICACHE.create(&bytes, kind, major, minor)) {
             Ok(Ok(inode)) => self.given(inode),
             Ok(Err(why)) => format!("err {}", why),
@@ -289,28 +309,34 @@ impl Script {
 
     fn given(&mut self, inode: Inode) -> String {
         let answer = format!("ok h {} inode {} slot {}", self.handles.len(), inode.inum, inode.index);
-        self.handles.push(Some(inode));
+        self.handles.push((inode.index, inode.inum));
+        self.live.push(inode);
         answer
     }
 
+    /// The place in `live` of a value behind a handle.
+    fn place(&self, number: u32) -> Result<usize, String> {
+        let (slot, inum) =
+            *self.handles.get(number as usize).ok_or_else(|| format!("handle {} was never given", number))?;
+        self.live
+            .iter()
+            .position(|inode| inode.index == slot && inode.inum == inum)
+            .ok_or_else(|| format!("handle {} is closed", number))
+    }
+
     fn handle(&self, number: u32) -> Result<&Inode, String> {
-        match self.handles.get(number as usize) {
-            Some(Some(inode)) => Ok(inode),
-            Some(None) => Err(format!("handle {} is closed", number)),
-            None => Err(format!("handle {} was never given", number)),
-        }
+        self.place(number).map(|place| &self.live[place])
+    }
+
+    /// Lends the process the directory that a relative path starts from, or takes it away where its handle is closed.
+    fn lend_cwd(&self) {
+        let start = self.cwd.and_then(|number| self.handle(number).ok());
+        unsafe { CPU_MANAGER.myproc().unwrap().lend_cwd(start) };
     }
 
     fn close(&mut self, number: u32) -> Answer {
-        let lent = self.handle(number)?;
-        unsafe {
-            // The directory that relative paths start from is lent by its handle, and goes with it.
-            let process = CPU_MANAGER.myproc().unwrap();
-            if process.starts_from(lent) {
-                process.lend_cwd(None);
-            }
-        }
-        let inode = self.handles[number as usize].take();
+        let place = self.place(number)?;
+        let inode = self.live.remove(place);
         Ok(done(caught::call(|| drop(inode))))
     }
 
