@@ -2,8 +2,8 @@
 """Document 01 as a program: a second, plain reading of the paper, to run against the Rust before the port is there.
 
 It reads the script language of REPLAY.md on standard input (or FILE) and answers as the port should: `no N` with
-document 01's number. It is written from the paper alone, byte arrays and whole searches, no cache and no speed.
-The cache standing alone and `check` are not in it. `record` and `trace` are answered as the oracle does.
+document 01's number. It is written from the paper alone: byte arrays and whole searches, no speed, and no cache under a
+volume. `check` is not in it. `record` and `trace` are answered as the oracle does.
 """
 
 import hashlib
@@ -367,6 +367,48 @@ class Volume:
         return inum, self.take_slot(inum)
 
 
+class Cache:
+    """The cache standing alone, without its memory: blocks, counts, and the order, most recently released first."""
+
+    def __init__(self):
+        self.blocks = [None] * 30
+        self.counts = [0] * 30
+        self.order = list(range(30))
+
+    def get(self, block):
+        if block in self.blocks:
+            index = self.blocks.index(block)
+            if self.counts[index] >= 1000:
+                raise Refused(2)
+        else:
+            free = [index for index in self.order if self.counts[index] == 0]
+            if not free:
+                raise Refused(16)
+            index = free[-1]
+            self.blocks[index] = block
+        self.counts[index] += 1
+        return index
+
+    def change(self, index, least, by):
+        """Counts up or down a buffer that has at least `least` references."""
+        if index > 29 or self.counts[index] < least or self.counts[index] + by > 1000:
+            raise Refused(2)
+        self.counts[index] += by
+
+    def release(self, index):
+        self.change(index, 1, -1)
+        if self.counts[index] == 0:
+            self.order.remove(index)
+            self.order.insert(0, index)
+
+    def shown(self):
+        words = []
+        for index in self.order:
+            block, count = self.blocks[index], self.counts[index]
+            words.append(f"{index}" + ("" if block is None else f":{block}") + (f"*{count}" if count else ""))
+        return " ".join(words)
+
+
 def components(path):
     """The start ("/" or not) and the names, each cut at 14 bytes and padded."""
     path = path.split(b"\0")[0]
@@ -410,6 +452,7 @@ class Session:
         self.handles = []
         self.cwd = None
         self.trace = []
+        self.cache = None
 
     def mounted(self):
         if self.volume is None:
@@ -486,6 +529,31 @@ class Session:
         due = volume.recover(budget, self.trace)
         self.volume = volume
         return self.reached(due, budget)
+
+    def do_cfresh(self):
+        self.volume, self.cache = None, Cache()
+        return "ok"
+
+    def do_cget(self, block):
+        if int(block) >= len(self.image) // BLOCK:
+            raise Refused(2)
+        return f"ok index {self.cache.get(int(block))}"
+
+    def do_crel(self, index):
+        self.cache.release(int(index))
+        return "ok"
+
+    def do_cpin(self, index):
+        self.cache.change(int(index), 1, 1)
+        return "ok"
+
+    def do_cunpin(self, index):
+        self.cache.change(int(index), 2, -1)
+        return "ok"
+
+    def do_order(self):
+        # Under a volume the order of clean buffers is excepted, so nothing is known of it here.
+        return self.cache.shown() if self.volume is None and self.cache else "harness: no cache stands alone"
 
     def do_begin(self):
         volume = self.mounted()

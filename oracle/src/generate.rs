@@ -193,6 +193,12 @@ struct Files {
 }
 
 impl Files {
+    /// Every path but the root's.
+    fn known(&self) -> Vec<String> {
+        let directories = self.directories.iter().map(|(path, _)| path).filter(|path| !path.is_empty());
+        directories.chain(self.files.iter().map(|(path, _, _)| path)).chain(&self.devices).cloned().collect()
+    }
+
     fn new(nlog: u32, room: u32, longest: u32) -> Files {
         Files { nlog, room, longest, directories: Vec::new(), files: Vec::new(), devices: Vec::new() }
     }
@@ -238,13 +244,19 @@ fn spelt(maker: &mut Maker, files: &Files, path: &str) -> String {
 }
 
 fn create(maker: &mut Maker, files: &mut Files) {
-    let parent = maker.pick(&files.directories).0;
-    let path = format!("{}/{}", parent, a_name(maker));
-    let kind = if maker.chance(20) { 1 } else { maker.pick(&[2, 2, 2, 3]) };
     // A directory takes a block, and so may its parent.
-    if files.room < 2 || files.directories.len() + files.files.len() + files.devices.len() > 12 {
+    if files.room < 2 {
         return;
     }
+    let known = files.known();
+    let path = if known.len() > 12 || (known.len() > 3 && maker.chance(20)) {
+        // A name that is there: opened again, or of another kind.
+        maker.pick(&known)
+    } else {
+        format!("{}/{}", maker.pick(&files.directories).0, a_name(maker))
+    };
+    let parent = path.rsplit_once('/').unwrap().0.to_string();
+    let kind = if maker.chance(20) { 1 } else { maker.pick(&[2, 2, 2, 3]) };
     let spelt = spelt(maker, files, &path);
     let answer = match kind {
         3 => maker.line(format!("create {} 3 {} {}", spelt, 7, -1)),
@@ -259,7 +271,9 @@ fn create(maker: &mut Maker, files: &mut Files) {
         } else if kind == 3 || files.devices.contains(&cut) {
             maker.line(format!("stat {}", handle));
             maker.line(format!("close {}", handle));
-            files.devices.push(cut);
+            if !files.devices.contains(&cut) {
+                files.devices.push(cut);
+            }
         } else if kind == 1 {
             files.directories.push((cut, handle));
         } else {
