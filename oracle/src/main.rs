@@ -9,9 +9,6 @@
 //! PROGRAM numbers [FILE]              answers a script of cache steps in numbers (see numbers.rs)
 //! PROGRAM compare FILE ANSWERS        compares another program's answers with its own (see compare.rs)
 
-// The published text is compiled as it stands, so its warnings are not ours to mend.
-#![allow(warnings)]
-
 extern crate alloc;
 // The kernel takes `array!` and `BitField` from two registry crates. Here this crate answers to both names.
 extern crate self as array_macro;

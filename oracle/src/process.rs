@@ -34,8 +34,7 @@ impl Process {
         std::panic::panic_any(WouldSleep);
     }
 
-    /// Sets where relative paths start, as a copy that holds no reference of its own.
-    pub fn lend_cwd(&mut self, handle: Option<&Inode>) {
+    fn start_from(&mut self, handle: Option<&Inode>) {
         let lent = handle.map(|inode| Inode { dev: inode.dev, inum: inode.inum, index: inode.index });
         let resources = self.data.get_mut().resources.as_ref().unwrap().clone();
         let old = std::mem::replace(&mut resources.acquire().cwd, lent);
@@ -57,7 +56,14 @@ impl CpuManager {
 
 /// The process as at boot: no directory to start from, and no lock held.
 pub unsafe fn as_at_boot() {
-    std::mem::forget(std::mem::replace(&mut CPU_MANAGER.process, None));
+    // Written over and not dropped: the directory in it is lent.
+    std::ptr::write(&raw mut CPU_MANAGER.process, None);
+}
+
+/// Sets where relative paths of the one process start, as a copy that holds no reference of its own.
+pub fn lend_cwd(handle: Option<&Inode>) {
+    let process = unsafe { (*&raw mut CPU_MANAGER).myproc() };
+    process.unwrap().start_from(handle);
 }
 
 pub struct ProcManager;

@@ -19,7 +19,7 @@ use crate::caught;
 use crate::card::{self, BLOCK};
 use crate::fs::window::{self, Stat};
 use crate::fs::{self, Buf, Inode, InodeType, BCACHE, ICACHE, LOG};
-use crate::process::{self, CPU_MANAGER};
+use crate::process;
 
 /// Longest read or data that a line may ask for: past the largest file, and small enough to hold.
 const LONGEST: u32 = 1 << 20;
@@ -331,7 +331,7 @@ impl Script {
     /// Lends the process the directory that a relative path starts from, or takes it away where its handle is closed.
     fn lend_cwd(&self) {
         let start = self.cwd.and_then(|number| self.handle(number).ok());
-        unsafe { CPU_MANAGER.myproc().unwrap().lend_cwd(start) };
+        process::lend_cwd(start);
     }
 
     fn close(&mut self, number: u32) -> Answer {
