@@ -1,13 +1,15 @@
 -- The marked cases, each computed from the very definitions that the contracts cite. A further case is a further row. Assumes nothing.
 use mathlib.Core.Path.{_≡_, refl}
-use mathlib.Core.Bool.{Bool, true}
+use mathlib.Core.Bool.{true}
 use mathlib.Core.List.{List, [], _∷_}
-use Prim.Native.Nat.{ℕ, _+_, _*_}
-use Rattle.base.specs.Bytes.{Bytes, put}
+use Prim.Native.Nat.{ℕ, _*_}
+use Rattle.base.specs.Bytes.{put}
 use Rattle.base.specs.First.{tabulate}
 use Rattle.superblock.specs.declared.Super.{Super}
-use Rattle.superblock.specs.Geometry.{dataStart, inodeBlock, inodeByte, inodeAddr, bitAddr}
-use Rattle.format.specs.Formatted.{numbersOf, formatted, fresh, ones}
+use Rattle.superblock.specs.Geometry.{GoodNumbers, dataStart, inodeBlock, inodeByte, bitAddr}
+use Rattle.format.specs.Formatted.{numbersOf, fresh, ones}
+use Rattle.format.specs.Laws.{numbers-good}
+use native.Mathlib.Omega.{arith}
 use Rattle.cases.specs.Table.{Case, case, right, row, at}
 
 -- where the areas are, and how many data blocks there are
@@ -20,6 +22,13 @@ small = numbersOf 64 16 30
 
 abbrev pub large : Super
 large = numbersOf 2000 200 30
+
+-- both are good
+pub small-good : GoodNumbers small
+small-good = numbers-good 64 16 30 (omega arith) (omega arith) (omega arith) (omega arith) (omega arith) (omega arith)
+
+pub large-good : GoodNumbers large
+large-good = numbers-good 2000 200 30 (omega arith) (omega arith) (omega arith) (omega arith) (omega arith) (omega arith)
 
 -- the first n bytes of a fresh card's bitmap
 abbrev pub bitmap : Super → ℕ → List ℕ

@@ -6,23 +6,22 @@ use mathlib.Core.List.{List, [], _∷_}
 use Prim.Native.Nat.{ℕ, zero, suc, _+_, _-_, _*_, _/_, _%_, _^_, _≤_, _<_, min}
 use native.Mathlib.Omega.{arith}
 use native.Mathlib.Nat.{pow-suc}
-use native.Mathlib.Decide.{ℕ-discrete, decLt, decLe}
+use native.Mathlib.Decide.{ℕ-discrete, decLt}
 use lib.ListN.{getD, length}
-use lib.Pow.{pow-lt, pow-pos}
+use lib.Pow.{pow-pos}
 use lib.Dec.{ltb}
 use borrow.Author.Tests.{lt-ltb, le-ltb}
 use Rattle.base.specs.Bytes.{Bytes, bytes, put, putBlock, put-in, put-out, put-at}
-use Rattle.base.specs.Number.{le, le-cong, digit, le-digit, get, get-other, get-part}
+use Rattle.base.specs.Number.{le, le-cong, digit, le-digit, get}
 use Rattle.base.specs.Bit.{bitAt}
 use Rattle.base.specs.Update.{upd, upd-same, upd-other}
 use Rattle.superblock.specs.declared.Super.{Super}
-use Rattle.superblock.specs.declared.Entry.{Entry}
-use Rattle.superblock.specs.Geometry.{GoodNumbers, Laid, Good, superOf, bits, bitmapBlocks, dataStart, inodeAddr, bitAddr}
+use Rattle.superblock.specs.Geometry.{GoodNumbers, Good, superOf, bits, bitmapBlocks, dataStart, inodeAddr}
 use Rattle.superblock.specs.Node.{Node, nodeIn, noNode, encoded, Fits}
-use Rattle.superblock.specs.Entry.{entryBytes, entryAt, entryAt-put, entry-moved, padded, padded-length}
-use Rattle.superblock.specs.Disk.{Disk, inoOf, bitOf, memOf, disk, setMem, setIno}
-use Rattle.superblock.specs.Stores.{inoOf-cong, bitOf-cong, memOf-cong, disk-ino, disk-mem}
-use Rattle.format.specs.Formatted.{numbersOf, words, superWords, ones, rootNode, rootBlock, dot, dotdot, zeros, fresh, formatted}
+use Rattle.superblock.specs.Entry.{entryBytes, entryAt, entryAt-put, entry-moved, padded-length}
+use Rattle.superblock.specs.Disk.{Disk, inoOf, bitOf, memOf, disk}
+use Rattle.superblock.specs.Stores.{inoOf-cong, disk-ino, disk-mem}
+use Rattle.format.specs.Formatted.{words, superWords, ones, rootNode, rootBlock, dot, dotdot, zeros, fresh}
 use Rattle.format.specs.Laws.{word-byte}
 
 -- the Disk of a fresh card

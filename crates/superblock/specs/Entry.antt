@@ -2,14 +2,13 @@
 -- A name is padded with zeros to its 14 bytes, and one of 14 bytes or more is cut there with no NUL. Assumes nothing.
 use mathlib.Core.Path.{_≡_, refl, sym, ap, _∙_}
 use mathlib.Core.List.{List}
-use Prim.Native.Nat.{ℕ, zero, suc, _+_, _-_, _*_, _^_, _≤_, _<_}
+use Prim.Native.Nat.{ℕ, _+_, _-_, _≤_, _<_}
 use native.Mathlib.Omega.{arith}
 use native.Mathlib.Decide.{decLt}
-use lib.ListN.{getD, length, List·getD-eq-default}
-use lib.Seq.{ext-getD}
+use lib.ListN.{length, List·getD-eq-default}
 use Rattle.base.specs.First.{tabulate, tabulate-same, tabulate-is, getD-tabulate, length-tabulate}
-use Rattle.base.specs.Bytes.{Bytes, bytes, put, put-in, put-out, put-at, put-more, put-same, is-put}
-use Rattle.base.specs.Number.{le, le-cong, le-digit, digit, get}
+use Rattle.base.specs.Bytes.{Bytes, bytes, put, put-out, put-at, put-more, put-same, is-put}
+use Rattle.base.specs.Number.{le-cong, le-digit, digit, get}
 use Rattle.superblock.specs.Record.{digit-le}
 pub use Rattle.superblock.specs.declared.Entry.{Entry}
 

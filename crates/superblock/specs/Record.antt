@@ -1,19 +1,17 @@
 -- The inode record on the card and in the code: reading gives back what was written, writing gives back what was read, and a change of one field
 -- alone is the record encoded with that field changed. Assumes nothing.
 use mathlib.Core.Path.{_≡_, refl, sym, ap, _∙_, fun-ext}
-use mathlib.Core.Bool.{Bool, true, false, cond}
-use mathlib.Core.Logic.{_≢_}
-use mathlib.Core.List.{List}
-use Prim.Native.Nat.{ℕ, zero, suc, _+_, _-_, _*_, _/_, _%_, _^_, _≤_, _<_}
+use mathlib.Core.Bool.{cond}
+use Prim.Native.Nat.{ℕ, zero, suc, _+_, _-_, _*_, _/_, _%_, _≤_, _<_}
 use native.Mathlib.Omega.{arith}
-use native.Mathlib.Decide.{ℕ-discrete, decLt}
+use native.Mathlib.Decide.{decLt}
 use lib.ListN.{getD, length, set, List·getD-eq-default}
 use lib.Seq.{ext-getD}
 use lib.Dec.{ltb}
 use borrow.Author.Tests.{lt-ltb, le-ltb}
-use Rattle.base.specs.First.{tabulate, tabulate-same, tabulate-is, getD-tabulate, length-tabulate}
-use Rattle.base.specs.Bytes.{Bytes, bytes, put, put-in, put-out, put-at, put-none, put-more, put-over, put-swap, put-same, is-put, Lies, lies, inside, outside}
-use Rattle.base.specs.Number.{le, le-cong, digit, get, get-moved}
+use Rattle.base.specs.First.{tabulate, tabulate-same, getD-tabulate, length-tabulate}
+use Rattle.base.specs.Bytes.{Bytes, put, put-out, put-at, put-more, put-same, is-put, Lies, lies, inside, outside}
+use Rattle.base.specs.Number.{le, le-cong, digit, get}
 use Rattle.base.specs.Update.{upd, upd-same, upd-other, upd-set}
 use Rattle.superblock.specs.declared.Inode.{Inode}
 use Rattle.superblock.specs.Node.{Node, nodeIn, nodeIn-cong, nodeIn-encoded, nodeIn-fits, Fits, encoded, addrBytes, node, inodeAt}
