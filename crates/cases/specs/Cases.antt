@@ -42,7 +42,7 @@ place s i = inodeBlock s i ∷ inodeByte i ∷ []
 unfoldable pub cases : List Case
 cases =
     case 1 (areas small) (32 ∷ 34 ∷ 35 ∷ 29 ∷ [])
-    ∷ case 2 (bitmap small 6) (255 ∷ 255 ∷ 255 ∷ 255 ∷ 15 ∷ 0 ∷ [])
+    ∷ case 2 (bitmap small 5) (255 ∷ 255 ∷ 255 ∷ 255 ∷ 15 ∷ [])
     ∷ case 3 (areas large) (32 ∷ 45 ∷ 46 ∷ 1954 ∷ [])
     ∷ case 4 (place large 199) (44 ∷ 448 ∷ [])
     ∷ []
@@ -55,3 +55,8 @@ cases-right = refl
 -- each row's equation
 pub each : (k : ℕ) → row cases k .gives ≡ row cases k .says
 each k = at cases cases-right k
+
+-- as one reads
+pub fresh-bitmap : bitmap small 5 ≡ 255 ∷ 255 ∷ 255 ∷ 255 ∷ 15 ∷ []
+unfolding cases
+fresh-bitmap = each 1

@@ -8,20 +8,21 @@ use native.Mathlib.Omega.{arith}
 use native.Mathlib.Nat.{pow-suc}
 use native.Mathlib.Decide.{ℕ-discrete, decLt}
 use lib.ListN.{getD, length}
-use lib.Pow.{pow-pos}
+use lib.Pow.{pow-lt, pow-pos}
 use lib.Dec.{ltb}
 use borrow.Author.Tests.{lt-ltb, le-ltb}
 use Rattle.base.specs.Bytes.{Bytes, bytes, put, putBlock, put-in, put-out, put-at}
-use Rattle.base.specs.Number.{le, le-cong, digit, le-digit, get}
+use Rattle.base.specs.Number.{digit-lt, le, le-cong, digit, le-digit, get}
 use Rattle.base.specs.Bit.{bitAt}
 use Rattle.base.specs.Update.{upd, upd-same, upd-other}
 use Rattle.superblock.specs.declared.Super.{Super}
 use Rattle.superblock.specs.Geometry.{GoodNumbers, Good, superOf, bits, bitmapBlocks, dataStart, inodeAddr}
 use Rattle.superblock.specs.Node.{Node, nodeIn, noNode, encoded, Fits}
-use Rattle.superblock.specs.Entry.{entryBytes, entryAt, entryAt-put, entry-moved, padded-length}
+use Rattle.superblock.specs.Record.{Small, put-small, encoded-small}
+use Rattle.superblock.specs.Entry.{entryBytes-small, padded-small, entryBytes, entryAt, entryAt-put, entry-moved, padded-length}
 use Rattle.superblock.specs.Disk.{Disk, inoOf, bitOf, memOf, disk}
 use Rattle.superblock.specs.Stores.{inoOf-cong, disk-ino, disk-mem}
-use Rattle.format.specs.Formatted.{words, superWords, ones, rootNode, rootBlock, dot, dotdot, zeros, fresh}
+use Rattle.format.specs.Formatted.{putSuper, putRootNode, putBits, words, superWords, ones, rootNode, rootBlock, dot, dotdot, zeros, fresh}
 use Rattle.format.specs.Laws.{word-byte}
 
 -- the Disk of a fresh card
@@ -229,3 +230,44 @@ unfolding rootBlock
 root-rest x h =
     put-out (put zeros 0 16 (entryBytes dot)) 16 16 (entryBytes dotdot) x (λ p q. omega arith)
     ∙ put-out zeros 0 16 (entryBytes dot) x (λ p q. omega arith)
+
+-- ---- every byte of a fresh card is a byte
+
+words-small : (l : List ℕ) → Small (words l)
+unfolding words
+words-small l k = digit-lt (getD l (k / 4) 0) (k % 4)
+
+ones-small : (n : ℕ) → Small (ones n)
+unfolding ones
+ones-small n k = go (decLt (n - 8 * k) 8)
+  where
+    go : Dec (n - 8 * k < 8) → 2 ^ min 8 (n - 8 * k) - 1 < 256
+    go (yes h) = let e : min 8 (n - 8 * k) ≡ n - 8 * k = omega arith in rw e (let l : 2 ^ (n - 8 * k) < 256 = pow-lt h in omega arith)
+    go (no h) = let e : min 8 (n - 8 * k) ≡ 8 = omega arith in rw e (omega arith)
+
+dot-small : Small (bytes (46 ∷ []))
+dot-small zero = omega arith
+dot-small (suc k) = omega arith
+
+dotdot-small : Small (bytes (46 ∷ 46 ∷ []))
+dotdot-small zero = omega arith
+dotdot-small (suc zero) = omega arith
+dotdot-small (suc (suc k)) = omega arith
+
+root-small : Small rootBlock
+unfolding rootBlock
+root-small =
+    put-small (put zeros 0 16 (entryBytes dot)) 16 16 (entryBytes dotdot)
+    (put-small zeros 0 16 (entryBytes dot) (λ x. omega arith) (entryBytes-small dot (padded-small (46 ∷ []) dot-small)))
+    (entryBytes-small dotdot (padded-small (46 ∷ 46 ∷ []) dotdot-small))
+
+pub fresh-small : (s : Super) → Small (fresh s)
+unfolding fresh
+fresh-small s =
+    put-small (putBits s (putRootNode s (putSuper s zeros))) (dataStart s * 1024) 1024 rootBlock
+    (put-small (putRootNode s (putSuper s zeros)) (s .bmapstart * 1024) (bitmapBlocks s * 1024) (ones (dataStart s + 1))
+    (put-small (putSuper s zeros) (inodeAddr s 1) 64 (encoded (rootNode (dataStart s)))
+    (put-small zeros 1024 32 (words (superWords s)) (λ x. omega arith) (words-small (superWords s)))
+    (encoded-small (rootNode (dataStart s))))
+    (ones-small (dataStart s + 1)))
+    root-small
