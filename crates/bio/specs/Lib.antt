@@ -2,3 +2,4 @@
 pub mod Among
 pub mod Seen
 pub mod Part
+pub mod Take
