@@ -22,7 +22,7 @@ use Rattle.bio.specs.Seen.{pinned, bufferOf, buffer-holds, buffer-is, buffer-no
 use Rattle.bio.specs.Take.{Taken, taken-here, taken-there, seen-taken, counted-buffer, seen-counted}
 use Rattle.bio.specs.declared.Table.{Table}
 use Rattle.cache.specs.Tables.{WellFormed, Sized, Bounded, bufferWith, chosen, chosen-own, chosen-new, withCount, oneMore, oneLess, holding, gotten, fetched, fetched-own, fetched-new, released, released-last, released-more}
-use Rattle.cache.specs.Calls.{Left, Inside, Got, GetGives, ReleaseGives, PinGives, UnpinGives, Went, refused}
+use Rattle.cache.specs.Calls.{Left, Inside, Got, GetGives, ReleaseGives, PinGives, UnpinGives, Went, index, refused}
 use Rattle.cache.specs.declared.Answer.{Answer}
 use Rattle.cache.specs.declared.Answer.the-variants.{Buffer}
 use Rattle.cache.specs.declared.After.{After}
@@ -321,3 +321,84 @@ module _ (t : Table) (memory image : List ℕ) (b : ℕ) (l : Left) (s : Served 
       full : getD (t .counts) (chosen t b) 0 ≡ 0 → Dec (bufferWith t b < 30) → fetched t b (bytes image) (bytes memory) ≡ put (bytes memory) (chosen t b * 1024) 1024 (block (bytes image) b)
       full z (yes p) = fetched-own t b (bytes image) (bytes memory) p ∙ sym (filled-same cl z p)
       full z (no p) = fetched-new t b (bytes image) (bytes memory) (omega arith)
+
+  got-clean : Clean t (bytes memory) (bytes image) → Clean (gotten t b) (fetched t b (bytes image) (bytes memory)) (bytes image)
+  got-clean cl = record {
+    each = λ j m z y i n. elim (ℕ-discrete j (chosen t b)) [
+      | yes e ↦ absurd (omega (arith, z, ap (λ (x : ℕ). getD (gotten t b .counts) x 0) e, count-here t (s .well) (chosen t b) (s .below) (getD (t .counts) (chosen t b) 0 + 1)))
+      | no e ↦
+          let o : getD (gotten t b .counts) j 0 ≡ getD (t .counts) j 0 = count-other t (s .well) (chosen t b) (s .below) (getD (t .counts) (chosen t b) 0 + 1) j e in
+          let q : getD (gotten t b .blocks) j 0 ≡ getD (t .blocks) j 0 = block-other t (s .well) (chosen t b) (s .below) b j e in
+          elsewhere j i n e (decLt (bufferWith t b) 30)
+          ∙ cl .each j m (sym o ∙ z) (omega arith) i n
+          ∙ ap (λ (x : ℕ). bytes image (x * 1024 + i)) (sym q)
+    ];
+  }
+    where
+      elsewhere : (j i : ℕ) → i < 1024 → j ≢ chosen t b → Dec (bufferWith t b < 30) → fetched t b (bytes image) (bytes memory) (j * 1024 + i) ≡ bytes memory (j * 1024 + i)
+      elsewhere j i n e (yes p) = ap (λ (f : Bytes). f (j * 1024 + i)) (fetched-own t b (bytes image) (bytes memory) p)
+      elsewhere j i n e (no p) =
+          ap (λ (f : Bytes). f (j * 1024 + i)) (fetched-new t b (bytes image) (bytes memory) (omega arith))
+          ∙ put-out (bytes memory) (chosen t b * 1024) 1024 (block (bytes image) b) (j * 1024 + i) (λ x y. e (omega arith))
+
+refused-memory : (t : Table) (memory : List ℕ) (l : Left) → ((n : Refusal) × (l ≡ (refused t n, memory))) → bytes (l .1) ≡ bytes memory
+refused-memory t memory l r = ap (λ (x : Left). bytes (x .1)) (r .1)
+
+-- no refusal names a buffer
+refused-none : (t : Table) (memory : List ℕ) (l : Left) (k : ℕ) → k < 30 → ((n : Refusal) × (l ≡ (refused t n, memory))) → l .0 .answer ≡ Buffer k → ⊥
+refused-none t memory l k h r e = omega (arith, sym (ap (λ (x : Left). index (x .0 .answer)) (r .1)) ∙ ap index e)
+
+module _ (t : Table) (memory image : List ℕ) (b : ℕ) (l : Left) (w : WellFormed t) (g : GetGives t memory image b l) where
+  -- every block that was held, b among them, is where it was, with its bytes, whether the get is served or refused
+  pub get-stays : (c : ℕ) → Held t c → Stays t (bytes memory) (l .0 .table) (bytes (l .1)) c
+  get-stays c h = go (get-cases t memory image b l w g)
+    where
+      go : ((n : Refusal) × (l ≡ (refused t n, memory))) ⊎ Served t memory image b l → Stays t (bytes memory) (l .0 .table) (bytes (l .1)) c
+      go (inl r) = rw (refused-table t memory l r, refused-memory t memory l r) (record { place = refl; byte = λ i m. refl })
+      go (inr s) = rw (s .got .table, s .got .memory-is) (record { place = got-place t memory image b l s c h; byte = got-byte t memory image b l s c h })
+
+  -- a get that names a buffer: block b is held there
+  module _ (k : ℕ) (low : k < 30) (e : l .0 .answer ≡ Buffer k) where
+    served : Served t memory image b l
+    served = go (get-cases t memory image b l w g)
+      where
+        go : ((n : Refusal) × (l ≡ (refused t n, memory))) ⊎ Served t memory image b l → Served t memory image b l
+        go (inl r) = absurd (refused-none t memory l k low r e)
+        go (inr s) = s
+
+    named-is : k ≡ chosen t b
+    named-is = ap index (sym e ∙ served .got .answer)
+
+    pub get-holds : bufferOf (l .0 .table .blocks) (l .0 .table .counts) b ≡ k
+    get-holds = rw (served .got .table) (got-here t memory image b l served ∙ sym named-is)
+
+    -- a block that no buffer had is read from the image, whole
+    pub get-reads : 30 ≤ bufferWith t b → (i : ℕ) → i < 1024 → bytes (l .1) (k * 1024 + i) ≡ bytes image (b * 1024 + i)
+    get-reads new i m =
+        ap (λ (x : ℕ). bytes (l .1) (x * 1024 + i)) named-is
+        ∙ ap (λ (f : Bytes). f (chosen t b * 1024 + i)) (served .got .memory-is ∙ fetched-new t b (bytes image) (bytes memory) new)
+        ∙ put-at (bytes memory) (chosen t b * 1024) 1024 (block (bytes image) b) i m
+
+    -- and where clean buffers have the image's bytes, any block's bytes are as they were seen
+    pub get-shows : Clean t (bytes memory) (bytes image) → (i : ℕ) → i < 1024 → bytes (l .1) (k * 1024 + i) ≡ seenThrough t (bytes memory) (bytes image) (b * 1024 + i)
+    get-shows cl i m =
+        ap (λ (x : ℕ). bytes (l .1) (x * 1024 + i)) named-is
+        ∙ ap (λ (f : Bytes). f (chosen t b * 1024 + i)) (served .got .memory-is)
+        ∙ ap (λ (x : ℕ). fetched t b (bytes image) (bytes memory) (x * 1024 + i)) (sym (got-here t memory image b l served))
+        ∙ sym (seen-in (gotten t b .blocks) (gotten t b .counts) (fetched t b (bytes image) (bytes memory)) (bytes image) b i m (omega (arith, got-here t memory image b l served, served .below)))
+        ∙ ap (λ (f : Bytes). f (b * 1024 + i)) (got-seen t memory image b l served cl)
+
+  -- a get leaves what is seen as it was, and clean buffers clean
+  pub get-seen : Clean t (bytes memory) (bytes image) → seenThrough (l .0 .table) (bytes (l .1)) (bytes image) ≡ seenThrough t (bytes memory) (bytes image)
+  get-seen cl = go (get-cases t memory image b l w g)
+    where
+      go : ((n : Refusal) × (l ≡ (refused t n, memory))) ⊎ Served t memory image b l → seenThrough (l .0 .table) (bytes (l .1)) (bytes image) ≡ seenThrough t (bytes memory) (bytes image)
+      go (inl r) = rw (refused-table t memory l r, refused-memory t memory l r) refl
+      go (inr s) = rw (s .got .table, s .got .memory-is) (got-seen t memory image b l s cl)
+
+  pub get-clean : Clean t (bytes memory) (bytes image) → Clean (l .0 .table) (bytes (l .1)) (bytes image)
+  get-clean cl = go (get-cases t memory image b l w g)
+    where
+      go : ((n : Refusal) × (l ≡ (refused t n, memory))) ⊎ Served t memory image b l → Clean (l .0 .table) (bytes (l .1)) (bytes image)
+      go (inl r) = rw (refused-table t memory l r, refused-memory t memory l r) cl
+      go (inr s) = rw (s .got .table, s .got .memory-is) (got-clean t memory image b l s cl)
