@@ -10,15 +10,16 @@ use native.Mathlib.Decide.{ℕ-discrete, decLt, decLe}
 use lib.ListN.{getD, length, set, length-set}
 use lib.Seq.{ext-getD, getD-set-same, getD-set-other}
 use lib.Dec.{eqb}
-use borrow.Author.Tests.{eqb-true, eqb-false}
+use borrow.Author.Tests.{eqb-true, eqb-false, ne-eqb}
 use Rattle.base.specs.Bytes.{Bytes, bytes, put, put-at, put-out, is-put, block}
-use Rattle.base.specs.First.{first, first-before, first-holds}
+use Rattle.base.specs.First.{first, first-same, first-none, first-before, first-holds, tabulate, getD-tabulate}
 use Rattle.base.specs.Update.{upd, upd-set}
 use Rattle.base.specs.declared.Refusal.{Refusal}
-use Rattle.bio.specs.Among.{Distinct}
-use Rattle.bio.specs.Fresh.{none}
-use Rattle.bio.specs.Order.{Named, front, front-length, front-named, named-place, leastRecent, least-free, least-some}
-use Rattle.bio.specs.Seen.{pinned, bufferOf, buffer-holds, buffer-is, buffer-none, held-below, seen, seen-in, seen-out}
+use Rattle.bio.specs.Among.{among, among-yes, Distinct}
+use Rattle.bio.specs.Fresh.{none, freshTable}
+use Rattle.bio.specs.Mask.{marks-decide}
+use Rattle.bio.specs.Order.{Named, front, front-length, front-named, named-place, freeAt, leastRecent, least-free, least-some}
+use Rattle.bio.specs.Seen.{pinned, pinned-other, bufferOf, buffer-holds, buffer-is, buffer-none, held-below, seen, seen-in, seen-out}
 use Rattle.bio.specs.Take.{Taken, taken-here, taken-there, seen-taken, counted-buffer, seen-counted}
 use Rattle.bio.specs.declared.Table.{Table}
 use Rattle.cache.specs.Tables.{WellFormed, Sized, Bounded, bufferWith, chosen, chosen-own, chosen-new, withCount, oneMore, oneLess, holding, gotten, fetched, fetched-own, fetched-new, released, released-last, released-more}
@@ -402,3 +403,81 @@ module _ (t : Table) (memory image : List ℕ) (b : ℕ) (l : Left) (w : WellFor
       go : ((n : Refusal) × (l ≡ (refused t n, memory))) ⊎ Served t memory image b l → Clean (l .0 .table) (bytes (l .1)) (bytes image)
       go (inl r) = rw (refused-table t memory l r, refused-memory t memory l r) cl
       go (inr s) = rw (s .got .table, s .got .memory-is) (got-clean t memory image b l s cl)
+
+-- ---- release, pin and unpin: no memory is lent to them, and every block of another buffer stays
+
+same-memory : (t t' : Table) (c : ℕ) → bufferOf (t' .blocks) (t' .counts) c ≡ bufferOf (t .blocks) (t .counts) c → (memory : Bytes) → Stays t memory t' memory c
+same-memory t t' c e memory = record { place = e; byte = λ i m. refl }
+
+counted-other : (blocks counts : List ℕ) (j n c : ℕ) → getD blocks j 0 ≢ c → bufferOf blocks (set counts j n) c ≡ bufferOf blocks counts c
+unfolding bufferOf pinned
+counted-other blocks counts j n c h = first-same (pinned blocks (set counts j n) c) (pinned blocks counts c) 30 (λ i m. elim (ℕ-discrete i j) [
+  | yes z ↦ rw z (pinned-other blocks (set counts j n) c j h ∙ sym (pinned-other blocks counts c j h))
+  | no z ↦ rw (getD-set-other counts j i n 0 z) refl
+])
+
+-- the block of another buffer
+pub release-stays : (t : Table) (j : ℕ) (a : After) → WellFormed t → ReleaseGives t j a → (c : ℕ) → getD (t .blocks) j 0 ≢ c → (memory : Bytes) → Stays t memory (a .table) memory c
+release-stays t j a w (inl g) c n memory = absurd (g .0 w)
+release-stays t j a w (inr (h1, inl g)) c n memory = rw (g .1) (same-memory t t c refl memory)
+release-stays t j a w (inr (h1, inr (h2, inl g))) c n memory = rw (g .1) (same-memory t t c refl memory)
+release-stays t j a w (inr (h1, inr (h2, inr (h3, g)))) c n memory = rw (g .is) (go (ℕ-discrete (getD (t .counts) j 0) 1))
+  where
+    go : Dec (getD (t .counts) j 0 ≡ 1) → Stays t memory (released t j) memory c
+    go (yes e) = rw (released-last t j e) (record { place = counted-other (t .blocks) (t .counts) j 0 c n; byte = λ i m. refl })
+    go (no e) = rw (released-more t j e) (record { place = counted-other (t .blocks) (t .counts) j (getD (t .counts) j 0 - 1) c n; byte = λ i m. refl })
+
+-- a reference more or less, and one at least before and after: every block stays, and all that is seen
+module _ (t : Table) (w : WellFormed t) (j n : ℕ) (low : j < 30) (had : 0 < getD (t .counts) j 0) (some : 0 < n) where
+  is-set : bytes (set (t .counts) j n) ≡ upd (bytes (t .counts)) j n
+  is-set = upd-set (t .counts) j n (omega (arith, w .sized .counts))
+
+  count-stays : (c : ℕ) (memory : Bytes) → Stays t memory (withCount t j n) memory c
+  count-stays c memory = record { place = counted-buffer (t .blocks) (t .counts) (set (t .counts) j n) j n had some is-set c; byte = λ i m. refl }
+
+  count-seen : (memory image : Bytes) → seenThrough (withCount t j n) memory image ≡ seenThrough t memory image
+  count-seen memory image = seen-counted (t .blocks) (t .counts) (set (t .counts) j n) j n had some is-set memory image
+
+pub pin-stays : (t : Table) (j : ℕ) (a : After) → WellFormed t → PinGives t j a → (c : ℕ) (memory : Bytes) → Stays t memory (a .table) memory c
+pin-stays t j a w (inl g) c memory = absurd (g .0 w)
+pin-stays t j a w (inr (h1, inl g)) c memory = rw (g .1) (same-memory t t c refl memory)
+pin-stays t j a w (inr (h1, inr (h2, inl g))) c memory = rw (g .1) (same-memory t t c refl memory)
+pin-stays t j a w (inr (h1, inr (h2, inr (h3, inl g)))) c memory = rw (g .1) (same-memory t t c refl memory)
+pin-stays t j a w (inr (h1, inr (h2, inr (h3, inr (h4, g))))) c memory =
+    rw (g .is) (count-stays t w j (getD (t .counts) j 0 + 1) (omega (arith, h2)) (omega (arith, h3)) (omega arith) c memory)
+
+pub unpin-stays : (t : Table) (j : ℕ) (a : After) → WellFormed t → UnpinGives t j a → (c : ℕ) (memory : Bytes) → Stays t memory (a .table) memory c
+unpin-stays t j a w (inl g) c memory = absurd (g .0 w)
+unpin-stays t j a w (inr (h1, inl g)) c memory = rw (g .1) (same-memory t t c refl memory)
+unpin-stays t j a w (inr (h1, inr (h2, inl g))) c memory = rw (g .1) (same-memory t t c refl memory)
+unpin-stays t j a w (inr (h1, inr (h2, inr (h3, g)))) c memory =
+    rw (g .is) (count-stays t w j (getD (t .counts) j 0 - 1) (omega (arith, h2)) (omega (arith, h3)) (omega (arith, h3)) c memory)
+
+-- ---- the table of boot
+
+pub fresh-well : WellFormed freshTable
+unfolding freshTable among tabulate first
+fresh-well = record {
+  order = record { each = λ j l. among-yes (freshTable .order) 30 j j l (getD-tabulate (λ k. k) 30 j l) };
+  once = record { same = λ i j l m x e. absurd (omega (arith, getD-tabulate (λ k. none) 30 i l)) };
+  counts = record { each = λ j l. omega (arith, getD-tabulate (λ k. 0) 30 j l) };
+  sized = record { blocks = refl; counts = refl; order = refl };
+}
+
+fresh-blocks : (j : ℕ) → j < 30 → getD (freshTable .blocks) j 0 ≡ none
+unfolding freshTable
+fresh-blocks j l = getD-tabulate (λ k. none) 30 j l
+
+fresh-least : leastRecent (freshTable .order) (freshTable .counts) ≡ 29
+unfolding freshTable leastRecent freeAt tabulate first
+fresh-least = refl
+
+-- the first buffer taken is 29
+pub fresh-first : (b : ℕ) → b < none → chosen freshTable b ≡ 29
+fresh-first b h = chosen-new freshTable b (omega (arith, empty)) ∙ fresh-least
+  where
+    empty : bufferWith freshTable b ≡ 30
+    empty = first-none (λ j. eqb (getD (freshTable .blocks) j 0) b) 30 (λ j l. ne-eqb (getD (freshTable .blocks) j 0) b (λ e. omega (arith, fresh-blocks j l)))
+
+pub fresh-clean : (memory image : Bytes) → Clean freshTable memory image
+fresh-clean memory image = record { each = λ j l z y. absurd (omega (arith, fresh-blocks j l)) }
