@@ -1,11 +1,11 @@
 -- The four calls: document 01's rows of each, in its order, and what a call that meets none of them leaves. A refusal leaves the table and
 -- every byte of the memory as they were. Assumes nothing.
-use mathlib.Core.Path.{_≡_, refl, sym, ap, _∙_}
+use mathlib.Core.Path.{_≡_, sym, ap, _∙_}
 use mathlib.Core.Logic.{_≢_}
 use mathlib.Core.List.{List, [], _∷_}
 use Prim.Native.Nat.{ℕ, _+_, _*_, _≤_, _<_}
 use lib.ListN.{getD, length}
-use Rattle.base.specs.Bytes.{Bytes, bytes}
+use Rattle.base.specs.Bytes.{bytes}
 use Rattle.base.specs.Refusals as refusals
 use Rattle.base.specs.Rows.{Row, row, Gives, gives-one}
 use Rattle.base.specs.declared.Refusal.{Refusal}

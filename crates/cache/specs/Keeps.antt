@@ -2,7 +2,6 @@
 -- after a get the buffer's bytes are the block's. Assumes nothing.
 use mathlib.Core.Path.{_≡_, refl, sym, ap, _∙_}
 use mathlib.Core.Logic.{_≢_, _⊎_, inl, inr}
-use mathlib.Core.Bool.{Bool, true, false, cond}
 use mathlib.Core.List.{List}
 use Prim.Native.Nat.{ℕ, _+_, _-_, _*_, _≤_, _<_}
 use native.Mathlib.Omega.{arith}
@@ -15,16 +14,14 @@ use Rattle.base.specs.Bytes.{Bytes, bytes, put, put-at, put-out, is-put, block}
 use Rattle.base.specs.First.{first, first-same, first-none, first-before, first-holds, tabulate, getD-tabulate}
 use Rattle.base.specs.Update.{upd, upd-set}
 use Rattle.base.specs.declared.Refusal.{Refusal}
-use Rattle.bio.specs.Among.{among, among-yes, Distinct}
+use Rattle.bio.specs.Among.{among, among-yes}
 use Rattle.bio.specs.Fresh.{none, freshTable}
-use Rattle.bio.specs.Mask.{marks-decide}
-use Rattle.bio.specs.Order.{Named, front, front-length, front-named, named-place, freeAt, leastRecent, least-free, least-some}
-use Rattle.bio.specs.Seen.{pinned, pinned-other, bufferOf, buffer-holds, buffer-is, buffer-none, held-below, seen, seen-in, seen-out}
-use Rattle.bio.specs.Take.{Taken, taken-here, taken-there, seen-taken, counted-buffer, seen-counted}
+use Rattle.bio.specs.Order.{front, front-length, front-named, named-place, freeAt, leastRecent, least-free, least-some}
+use Rattle.bio.specs.Seen.{pinned, pinned-other, bufferOf, buffer-holds, buffer-is, buffer-none, seen, seen-in}
+use Rattle.bio.specs.Take.{Taken, taken-there, seen-taken, counted-buffer, seen-counted}
 use Rattle.bio.specs.declared.Table.{Table}
-use Rattle.cache.specs.Tables.{WellFormed, Sized, Bounded, bufferWith, chosen, chosen-own, chosen-new, withCount, oneMore, oneLess, holding, gotten, fetched, fetched-own, fetched-new, released, released-last, released-more}
-use Rattle.cache.specs.Calls.{Left, Inside, Got, GetGives, ReleaseGives, PinGives, UnpinGives, Went, index, refused}
-use Rattle.cache.specs.declared.Answer.{Answer}
+use Rattle.cache.specs.Tables.{WellFormed, Bounded, bufferWith, chosen, chosen-own, chosen-new, withCount, holding, gotten, fetched, fetched-own, fetched-new, released, released-last, released-more}
+use Rattle.cache.specs.Calls.{Left, Inside, Got, GetGives, ReleaseGives, PinGives, UnpinGives, index, refused}
 use Rattle.cache.specs.declared.Answer.the-variants.{Buffer}
 use Rattle.cache.specs.declared.After.{After}
 
@@ -274,7 +271,7 @@ module _ (t : Table) (memory image : List ℕ) (b : ℕ) (l : Left) (s : Served 
     | no z ↦
         ap (λ (x : List ℕ). bufferOf x (gotten t b .counts) c) (same-blocks (omega arith))
         ∙ counted-buffer (t .blocks) (t .counts) (gotten t b .counts) (chosen t b) (getD (t .counts) (chosen t b) 0 + 1) (omega arith) (omega arith)
-          (upd-set (t .counts) (chosen t b) (getD (t .counts) (chosen t b) 0 + 1) counts-long) c
+        (upd-set (t .counts) (chosen t b) (getD (t .counts) (chosen t b) 0 + 1) counts-long) c
   ]
 
   got-place : (c : ℕ) → Held t c → bufferOf (gotten t b .blocks) (gotten t b .counts) c ≡ bufferOf (t .blocks) (t .counts) c
@@ -303,8 +300,8 @@ module _ (t : Table) (memory image : List ℕ) (b : ℕ) (l : Left) (s : Served 
   filled-same cl z p =
       let e : getD (t .blocks) (chosen t b) 0 ≡ b = rw (chosen-own t b p) (eqb-true _ _ (first-holds (λ j. eqb (getD (t .blocks) j 0) b) 30 p)) in
       sym (is-put (bytes memory) (bytes memory) (chosen t b * 1024) 1024 (block (bytes image) b)
-        (λ i m. cl .each (chosen t b) (s .below) z (omega (arith, s .inside .real)) i m ∙ ap (λ (x : ℕ). bytes image (x * 1024 + i)) e)
-        (λ x o. refl))
+      (λ i m. cl .each (chosen t b) (s .below) z (omega (arith, s .inside .real)) i m ∙ ap (λ (x : ℕ). bytes image (x * 1024 + i)) e)
+      (λ x o. refl))
 
   got-seen : Clean t (bytes memory) (bytes image) → seenThrough (gotten t b) (fetched t b (bytes image) (bytes memory)) (bytes image) ≡ seenThrough t (bytes memory) (bytes image)
   got-seen cl = elim (ℕ-discrete (getD (t .counts) (chosen t b) 0) 0) [
@@ -316,7 +313,7 @@ module _ (t : Table) (memory image : List ℕ) (b : ℕ) (l : Left) (s : Served 
         ap (λ (f : Bytes). seenThrough (gotten t b) f (bytes image)) (fetched-own t b (bytes image) (bytes memory) (h .0))
         ∙ ap (λ (x : List ℕ). seen x (gotten t b .counts) (bytes memory) (bytes image)) (same-blocks (omega arith))
         ∙ seen-counted (t .blocks) (t .counts) (gotten t b .counts) (chosen t b) (getD (t .counts) (chosen t b) 0 + 1) (omega arith) (omega arith)
-          (upd-set (t .counts) (chosen t b) (getD (t .counts) (chosen t b) 0 + 1) counts-long) (bytes memory) (bytes image)
+        (upd-set (t .counts) (chosen t b) (getD (t .counts) (chosen t b) 0 + 1) counts-long) (bytes memory) (bytes image)
   ]
     where
       full : getD (t .counts) (chosen t b) 0 ≡ 0 → Dec (bufferWith t b < 30) → fetched t b (bytes image) (bytes memory) ≡ put (bytes memory) (chosen t b * 1024) 1024 (block (bytes image) b)

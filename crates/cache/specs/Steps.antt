@@ -1,19 +1,16 @@
 -- The ways in which a get ends, each as the row that it meets: a law for each `return` of the code. Assumes nothing.
-use mathlib.Core.Path.{_≡_, refl, sym, ap, _∙_}
+use mathlib.Core.Path.{_≡_, sym, ap, _∙_}
 use mathlib.Core.Logic.{_≢_, inl, inr}
 use mathlib.Core.List.{List}
-use Prim.Native.Nat.{ℕ, _+_, _*_, _≤_, _<_}
+use Prim.Native.Nat.{ℕ, _*_, _≤_, _<_}
 use native.Mathlib.Omega.{arith}
-use native.Mathlib.Decide.{decLt}
 use lib.ListN.{getD, length}
-use Rattle.base.specs.Bytes.{Bytes, bytes, put, block}
-use Rattle.base.specs.declared.Refusal.{Refusal}
+use Rattle.base.specs.Bytes.{bytes, put, block}
 use Rattle.base.specs.declared.Refusal.the-variants.{NotWhole, BadCall, NoBuffer}
 use Rattle.bio.specs.Order.{leastRecent, least-free, least-some}
 use Rattle.bio.specs.declared.Table.{Table}
-use Rattle.cache.specs.Tables.{WellFormed, bufferWith, chosen, chosen-own, chosen-new, holding, gotten, fetched, fetched-own, fetched-new}
-use Rattle.cache.specs.Calls.{Left, Inside, Got, GetGives, refused}
-use Rattle.cache.specs.declared.Answer.{Answer}
+use Rattle.cache.specs.Tables.{WellFormed, bufferWith, chosen, chosen-own, chosen-new, holding, fetched-own, fetched-new}
+use Rattle.cache.specs.Calls.{Left, Inside, GetGives, refused}
 use Rattle.cache.specs.declared.Answer.the-variants.{Buffer}
 use Rattle.cache.specs.declared.After.{After}
 
