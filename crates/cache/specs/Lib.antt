@@ -3,3 +3,5 @@ pub mod Tables
 pub mod Calls
 pub mod Steps
 pub mod Keeps
+pub mod Stays
+pub mod Boot
