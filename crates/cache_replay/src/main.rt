@@ -120,13 +120,26 @@ fn step(t: Table, memory: &mut [u8], image: &[u8], op: u32, arg: u32) -> After {
     cache::unpin(t, j)
 }
 
-// An answer as the list has it.
-fn code(a: Answer, arg: u32) -> u32 {
+// An answer as the list has it: 255 where the Rust panics, which is 16 for a get and 2 for the others.
+fn code(a: Answer, op: u32, arg: u32) -> u32 {
     match a {
-        Answer::Buffer(j) => if j < 30 { base::small(j) } else { 255 },
+        Answer::Buffer(j) => if j < 30 { base::small(j) } else { 256 },
         Answer::Done => arg,
-        Answer::Refused(_) => 255,
+        Answer::Refused(r) => panicked(op, base::number_of(r)),
     }
+}
+
+fn panicked(op: u32, n: u32) -> u32 {
+    if op == 1 {
+        if n == 16 {
+            return 255;
+        }
+        return 256;
+    }
+    if n == 2 {
+        return 255;
+    }
+    256
 }
 
 // Whether a step went as the list says: the answer, the order behind it, and after a get the bytes.
@@ -169,7 +182,7 @@ fn replay(s: &[u8], memory: &mut [u8], image: &[u8]) -> Tally {
             op.value,
             arg.value,
             answer.value,
-            code(a, arg.value),
+            code(a, op.value, arg.value),
             same.value,
         ) {
             differences += 1;
