@@ -35,7 +35,7 @@ refused t n = record { table = t; answer = Refused n }
 
 -- ---- get
 
--- b is the number of a block that lies in the image
+-- b is the number of a block that lies in the image; the number of a buffer without a block is none's, whatever the image
 pub record Inside (b : ℕ) (image : List ℕ) : Type 0 where
   pub real : b < none
   pub whole : b * 1024 + 1024 ≤ length image
@@ -44,6 +44,7 @@ pub record Inside (b : ℕ) (image : List ℕ) : Type 0 where
 abbrev pub Left : Type 0
 Left = After × List ℕ
 
+-- the table not whole; memory of another length; a block outside the image; a count already 1,000; no buffer without references
 abbrev pub getRows : Table → List ℕ → List ℕ → ℕ → List (Row Refusal)
 getRows t memory image b =
     row NotWhole (WellFormed t → ⊥)
@@ -59,11 +60,13 @@ pub record Got (t : Table) (memory image : List ℕ) (b : ℕ) (l : Left) : Type
   pub table : l .0 .table ≡ gotten t b
   pub memory-is : bytes (l .1) ≡ fetched t b (bytes image) (bytes memory)
 
+-- get: the first row that holds, with all as it was, else the block
 abbrev pub GetGives : Table → List ℕ → List ℕ → ℕ → Left → Type 0
 GetGives t memory image b l = Gives (λ n. (refused t n, memory)) (getRows t memory image b) (Got t memory image b) l
 
 -- ---- release, pin, unpin
 
+-- the table not whole; an index over 29; no reference to give back
 abbrev pub releaseRows : Table → ℕ → List (Row Refusal)
 releaseRows t j =
     row NotWhole (WellFormed t → ⊥)
@@ -71,6 +74,7 @@ releaseRows t j =
     ∷ row BadCall (getD (t .counts) j 0 ≡ 0)
     ∷ []
 
+-- the same, and a count already 1,000
 abbrev pub pinRows : Table → ℕ → List (Row Refusal)
 pinRows t j =
     row NotWhole (WellFormed t → ⊥)
@@ -79,6 +83,7 @@ pinRows t j =
     ∷ row BadCall (getD (t .counts) j 0 ≡ 1000)
     ∷ []
 
+-- the last reference is not for unpin
 abbrev pub unpinRows : Table → ℕ → List (Row Refusal)
 unpinRows t j =
     row NotWhole (WellFormed t → ⊥)
@@ -90,6 +95,7 @@ unpinRows t j =
 pub record Went (t' : Table) (a : After) : Type 0 where
   pub is : a ≡ record { table = t'; answer = Done }
 
+-- release, pin, unpin: the first row that holds, with the table as it was, else the next table
 abbrev pub ReleaseGives : Table → ℕ → After → Type 0
 ReleaseGives t j = Gives (refused t) (releaseRows t j) (Went (released t j))
 
@@ -99,6 +105,7 @@ PinGives t j = Gives (refused t) (pinRows t j) (Went (oneMore t j))
 abbrev pub UnpinGives : Table → ℕ → After → Type 0
 UnpinGives t j = Gives (refused t) (unpinRows t j) (Went (oneLess t j))
 
+-- the same table by another name
 pub went-as : {u t' : Table} {a : After} → u ≡ t' → Went u a → Went t' a
 went-as e w = rw (← e) w
 
