@@ -1,20 +1,22 @@
 -- What a store does to a card's Disk: a store of an inode, of a bit and of data bytes each change just that, for any number of bitmap blocks.
 -- Assumes nothing.
 use mathlib.Core.Path.{_≡_, refl, sym, ap, _∙_, fun-ext}
-use mathlib.Core.Bool.{cond, _&&_}
+use mathlib.Core.Logic.{_≢_}
+use mathlib.Core.Bool.{Bool, true, false, cond, _&&_}
 use mathlib.Core.List.{List}
-use Prim.Native.Nat.{ℕ, _+_, _*_, _/_, _%_, _≤_, _<_}
+use Prim.Native.Nat.{ℕ, zero, suc, _+_, _-_, _*_, _/_, _%_, _^_, _≤_, _<_}
 use native.Mathlib.Omega.{arith}
 use native.Mathlib.Decide.{ℕ-discrete, decLt}
 use lib.ListN.{getD, length, set}
-use lib.Dec.{ltb}
+use lib.Dec.{leb, ltb, eqb}
 use borrow.Author.Tests.{lt-ltb, le-ltb}
 use Rattle.base.specs.Bytes.{Bytes, bytes, bytes-set, put, put-in, put-out, put-at}
+use Rattle.base.specs.Number.{le, le-cong, le-lt, digit, get, get-same, get-other}
 use Rattle.base.specs.Bit.{bitAt, withBit, bit-same, bit-other}
 use Rattle.base.specs.Update.{upd, upd-same, upd-other}
 use Rattle.superblock.specs.Geometry.{Super, Laid, bits, dataStart, inodeAddr, bitAddr}
-use Rattle.superblock.specs.Node.{Node, nodeIn-cong, nodeIn-encoded, nodeIn-fits, Fits, if-cong, encoded, noNode}
-use Rattle.superblock.specs.Disk.{inoOf, bitOf, memOf, disk, setIno, setBit, setMem}
+use Rattle.superblock.specs.Node.{Node, nodeIn, nodeIn-cong, nodeIn-encoded, nodeIn-fits, Fits, if-cong, encoded, noNode}
+use Rattle.superblock.specs.Disk.{Disk, inoOf, bitOf, memOf, disk, setIno, setBit, setMem}
 
 -- ---- the image's bytes
 
