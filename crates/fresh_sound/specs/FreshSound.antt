@@ -231,7 +231,7 @@ module _ (g : Super) (ok : GoodNumbers g) where
   fresh-S6 = record { rootUp = num-1; rootOnce = no-names 1 (omega arith); below = λ i h z. absurd (z (is-root i h)) }
 
   fresh-S7 : S7 g (tree v)
-  fresh-S7 = record { root = rw ino-root; dirs = λ i h z. absurd (z (is-root i h)); others = λ i h. absurd (only-dirs i h) }
+  fresh-S7 = record { root = ap (λ (r : Node). r .nlink) ino-root; dirs = λ i h z. absurd (z (is-root i h)); others = λ i h. absurd (only-dirs i h) }
     where
       only-dirs : (i : ℕ) → 2 ≤ v .ino i .kind → ⊥
       only-dirs i h = elim (ℕ-discrete i 1) [
