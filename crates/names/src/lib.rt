@@ -1,5 +1,5 @@
 // The rule S5: the entries of each directory. An entry is found once and then read by its address; "no name twice" compares the pairs of one
-// directory, each until the first byte that differs.
+// directory, the first eight bytes as two numbers.
 ghost use mathlib.Core.Path.{_≡_};
 ghost use mathlib.Core.Logic.{_≢_};
 ghost use Prim.Native.Nat.{ℕ, _+_, _*_, _<_, _≤_};
@@ -87,13 +87,23 @@ pub fn good_name(image: &[u8], a: usize) -> bool
     true
 }
 
-// The entry at b is free, or has another name than the one at a.
+// The entry at b is free, or has another name than the one at a: most differ in the first eight bytes, which are compared as two numbers.
 pub fn differs(image: &[u8], a: usize, b: usize) -> bool
     requires { ⌜ (a < 4398046511104) × (b < 4398046511104) ⌝ }
     ensures { λ r. ⌜ Decides r (Differs (bytes (now (image .entry))) a b) ⌝ }
 {
     let x = reads::num2(image, b);
     if x == 0 {
+        return true;
+    }
+    let a4 = reads::num4(image, a + 2);
+    let b4 = reads::num4(image, b + 2);
+    if a4 != b4 {
+        return true;
+    }
+    let a8 = reads::num4(image, a + 6);
+    let b8 = reads::num4(image, b + 6);
+    if a8 != b8 {
         return true;
     }
     let same = same_names(image, a, b);
