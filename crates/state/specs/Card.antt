@@ -1,31 +1,14 @@
 -- How the tests of a superblock's numbers against a card come together. Assumes nothing.
 use mathlib.Core.Path.{_≡_, refl, sym, ap, _∙_}
 use mathlib.Core.List.{List}
-use Prim.Native.Nat.{ℕ, _+_, _-_, _*_, _/_, _≤_, _<_}
+use Prim.Native.Nat.{ℕ, _*_, _≤_}
 use native.Mathlib.Omega.{arith}
 use lib.ListN.{length}
-use lib.Dec.{eqb}
-use Rattle.base.specs.Decide.{Decides, alike, eq-decides}
 use Rattle.base.specs.Bytes.{Bytes, bytes}
 use Rattle.base.specs.Number.{get}
 use Rattle.superblock.specs.declared.Super.{Super}
-use Rattle.superblock.specs.Geometry.{dataStart, Laid, GoodNumbers, Good, superOf}
+use Rattle.superblock.specs.Geometry.{GoodNumbers, Good, superOf}
 use Rattle.state.specs.Whole.{Card, Written}
-
--- the last test of good numbers, after all others
-pub numbers-of : (s : Super) → 12 ≤ s .nlog → s .nlog ≤ 30 → 2 ≤ s .ninodes → s .ninodes ≤ 65535 → s .size ≤ 8191 → s .inodestart ≡ 2 + s .nlog
-    → s .bmapstart ≡ s .inodestart + s .ninodes / 16 + 1 → dataStart s < s .size → Decides (eqb (s .nblocks) (s .size - dataStart s)) (GoodNumbers s)
-numbers-of s a b c d e f h l = alike
-    (λ z. record {
-      laid = record { inodestart = f; bmapstart = h; nblocks = omega arith; some = omega arith };
-      log-least = a;
-      log-most = b;
-      inodes-least = c;
-      inodes-most = d;
-      size-most = e;
-    })
-    (λ g. omega (arith, g .laid .nblocks))
-    (eq-decides (s .nblocks) (s .size - dataStart s))
 
 module _ (s : Super) (image : List ℕ) where
   pub card-numbers : Card s image → GoodNumbers s

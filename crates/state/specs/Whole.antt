@@ -7,6 +7,7 @@ use lib.ListN.{getD, length}
 use Rattle.base.specs.Bytes.{Bytes, bytes}
 use Rattle.base.specs.Number.{get}
 use Rattle.bio.specs.Among.{among, Distinct}
+use Rattle.bio.specs.Order.{Named}
 use Rattle.superblock.specs.declared.Super.{Super}
 use Rattle.superblock.specs.Geometry.{Good, superOf}
 pub use Rattle.state.specs.declared.Slots.{Slots}
@@ -48,10 +49,6 @@ pub record Buffered (blocks counts homes : List ℕ) (n low size : ℕ) : Type 0
   pub list : GoodHomes homes n low size
   pub buffers : GoodBuffers blocks counts homes n size
 
--- the order names each buffer; it has as many places as there are buffers, so each once (`named-once` of Given)
-pub record Named (order : List ℕ) : Type 0 where
-  pub each : (k : ℕ) → k < 30 → among order 30 k ≡ true
-
 -- slots in use hold distinct inodes from 1 to ninodes - 1, counts 1 to 1,000
 pub record GoodSlots (inums refs : List ℕ) (ninodes : ℕ) : Type 0 where
   pub low : (k : ℕ) → k < 50 → 0 < getD refs k 0 → 1 ≤ getD inums k 0
@@ -59,7 +56,16 @@ pub record GoodSlots (inums refs : List ℕ) (ninodes : ℕ) : Type 0 where
   pub count : (k : ℕ) → k < 50 → 0 < getD refs k 0 → getD refs k 0 ≤ 1000
   pub distinct : (j k : ℕ) → j < 50 → k < 50 → 0 < getD refs j 0 → 0 < getD refs k 0 → getD inums j 0 ≡ getD inums k 0 → j ≡ k
 
--- a mounted volume's state is whole
+-- 30 and 50 of each, as the types of the code say
+pub record Lengths (v : Volume) : Type 0 where
+  pub blocks : length (v .table .blocks) ≡ 30
+  pub counts : length (v .table .counts) ≡ 30
+  pub order : length (v .table .order) ≡ 30
+  pub homes : length (v .homes) ≡ 30
+  pub inums : length (v .slots .inums) ≡ 50
+  pub refs : length (v .slots .refs) ≡ 50
+
+-- a mounted volume's state is whole; the order names each buffer, and has as many places, so each once (`named-once` of Given)
 pub record Whole (v : Volume) (image : List ℕ) : Type 0 where
   pub live : v .live ≡ 1
   pub card : Card (v .sb) image
@@ -67,6 +73,7 @@ pub record Whole (v : Volume) (image : List ℕ) : Type 0 where
   pub buffered : Buffered (v .table .blocks) (v .table .counts) (v .homes) (v .recorded) (v .sb .inodestart) (v .sb .size)
   pub order : Named (v .table .order)
   pub slots : GoodSlots (v .slots .inums) (v .slots .refs) (v .sb .ninodes)
+  pub lengths : Lengths v
 
 -- the eight numbers of block 1
 pub record Written (s : Super) (d : Bytes) : Type 0 where

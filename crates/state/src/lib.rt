@@ -6,8 +6,7 @@ ghost use Prim.Native.Nat.{ℕ, _+_, _*_, _<_, _≤_};
 ghost use lib.ListN.{length, getD};
 ghost use Rattle.base.specs.Bytes.{bytes};
 ghost use Rattle.base.specs.Decide.{Decides};
-ghost use Rattle.superblock.specs.Geometry.{GoodNumbers};
-ghost use Rattle.state.specs.Whole.{Written, Card, Counts, Named, Buffered, GoodSlots, Whole};
+ghost use Rattle.state.specs.Whole.{Written, Card, Counts, Buffered, GoodSlots, Whole};
 ghost use Rattle.state.specs.Marks.{Marks, Met, Clear};
 ghost use Rattle.state.specs.Slots.{GoodSlot, slotOf};
 use bio::Table;
@@ -37,22 +36,6 @@ pub struct Volume {
 pub struct Handle {
     pub slot: u32,
     pub inum: u32,
-}
-
-// The order names each buffer: bit k of the mask is set where k was met.
-pub fn named(order: &[u32; 30]) -> bool
-    ensures { λ r. ⌜ Decides r (Named (now (order .entry))) ⌝ }
-{
-    let mut mask: u32 = 0;
-    let mut i: usize = 0;
-    while i < 30 {
-        let o = order[i];
-        if o < 30 {
-            mask = mask | (1 << o);
-        }
-        i += 1;
-    }
-    mask == 1073741823
 }
 
 // Each buffer's block gets the mark 1 plus the buffer's count.
@@ -204,37 +187,6 @@ pub fn good_slots<'b>(inums: &'b [u32; 50], refs: &'b [u32; 50], ninodes: u32) -
     true
 }
 
-// Good numbers of a superblock. Each sum is of numbers whose limits were tested.
-pub fn good_numbers(s: Super) -> bool
-    ensures { λ r. ⌜ Decides r (GoodNumbers s) ⌝ }
-{
-    if s.nlog < 12 {
-        return false;
-    }
-    if 30 < s.nlog {
-        return false;
-    }
-    if s.ninodes < 2 {
-        return false;
-    }
-    if 65535 < s.ninodes {
-        return false;
-    }
-    if 8191 < s.size {
-        return false;
-    }
-    if s.inodestart != 2 + s.nlog {
-        return false;
-    }
-    if s.bmapstart != s.inodestart + s.ninodes / 16 + 1 {
-        return false;
-    }
-    if s.size <= s.bmapstart + s.size / 8192 + 1 {
-        return false;
-    }
-    s.nblocks == s.size - (s.bmapstart + s.size / 8192 + 1)
-}
-
 // The eight numbers in block 1: magic and logstart as on every card, the others these.
 fn same_numbers(s: Super, image: &[u8]) -> bool
     requires { ⌜ 1056 ≤ length (now image) ⌝ }
@@ -268,7 +220,7 @@ fn same_numbers(s: Super, image: &[u8]) -> bool
 pub fn on_card(s: Super, image: &[u8]) -> bool
     ensures { λ r. ⌜ Decides r (Card s (now (image .entry))) ⌝ }
 {
-    if !good_numbers(s) {
+    if !superblock::good_numbers(s) {
         return false;
     }
     if image.len() != s.size as usize * 1024 {
@@ -311,7 +263,7 @@ pub fn whole(v: Volume, image: &[u8]) -> bool
     if !good_counts(v.ops, v.recorded, sb.nlog) {
         return false;
     }
-    if !named(&v.table.order) {
+    if !bio::named(&v.table.order) {
         return false;
     }
     if !buffered(

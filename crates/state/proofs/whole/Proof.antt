@@ -47,6 +47,7 @@ returns-6 c = alike (λ s. record {
   buffered = passed (c .before .before .before .before .before .buffered .ensures) (c .before .before .before .before .if5 .left);
   order = passed (c .before .before .before .before .before .before .before .before .before .before .before .named .ensures) (c .before .before .before .before .before .before .before .before .before .before .if4 .left);
   slots = s;
+  lengths = let g = c .before .before .before .before .before .before .before .before .before .before .before .before .before .before .before .before .before .before .before .before .before .good .0 in record { blocks = search needs; counts = search needs; order = search needs; homes = search needs; inums = search needs; refs = let k = g .1 .1 .1 .1 in search needs };
 }) (λ g. g .slots) (c .good-slots .ensures)
 
 pub whole-spec : {M : Type 1} → statement M
