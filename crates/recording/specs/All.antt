@@ -230,7 +230,7 @@ all-step : (v w u : Volume) (l image : List ℕ) (n i m : ℕ) (cache mid next :
 all-step v w u l image n i m cache mid next g a h e x y =
     rw e (all-more v w l image n i cache mid g a h u next (rw (x, y) (ensured w (getD l i 0) image (all-touch v w l image n i cache mid g a h) mid)))
 
-suc-recorded : (v : Volume) (l : List ℕ) (i : ℕ) → recordAll v l (suc i) ≡ touched (recordAll v l i) (getD l i 0)
+pub suc-recorded : (v : Volume) (l : List ℕ) (i : ℕ) → recordAll v l (suc i) ≡ touched (recordAll v l i) (getD l i 0)
 unfolding recordAll
 suc-recorded v l i = refl
 

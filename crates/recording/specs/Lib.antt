@@ -2,5 +2,6 @@
 pub mod Record
 pub mod One
 pub mod All
+pub mod Grow
 pub mod Steps
 pub mod Store

@@ -1,12 +1,12 @@
 // The state of a volume (log.rs and inode.rs keep it in statics), by value: the superblock's numbers, the buffer table, the recorded homes, how
 // many operations are open, the handle slots. `whole` runs at the head of every call, so it marks blocks and does not compare pairs.
 ghost use mathlib.Core.Path.{_≡_};
-ghost use mathlib.Core.Bool.{true, cond};
 ghost use Prim.Native.Nat.{ℕ, _+_, _*_, _<_, _≤_};
 ghost use lib.ListN.{length, getD};
 ghost use Rattle.base.specs.Bytes.{bytes};
 ghost use Rattle.base.specs.Decide.{Decides};
-ghost use Rattle.state.specs.Whole.{Written, Card, Counts, Buffered, GoodSlots, Whole};
+ghost use Rattle.state.specs.Whole.{Card, Counts, Buffered, GoodSlots, Whole};
+ghost use Rattle.state.specs.Card.{Written};
 ghost use Rattle.state.specs.Marks.{Marks, Met, Clear};
 ghost use Rattle.state.specs.Slots.{GoodSlot, slotOf};
 use bio::Table;
