@@ -8,14 +8,31 @@ ghost use lib.ListN.{length, getD};
 ghost use Rattle.base.specs.Bytes.{bytes};
 ghost use Rattle.base.specs.Number.{get as numAt};
 ghost use Rattle.base.specs.Decide.{Decides};
-ghost use Rattle.superblock.specs.Geometry.{GoodNumbers};
-ghost use Rattle.superblock.specs.Node.{node};
+ghost use Rattle.superblock.specs.Geometry.{GoodNumbers, inodeAddr};
+ghost use Rattle.superblock.specs.Node.{node, inodeAt};
 ghost use Rattle.bio.specs.Seen.{seen};
 ghost use Rattle.rules.specs.Fit.{Shape, Fit, slot, slotOf, blocks as blocksOf};
 ghost use Rattle.inode.specs.Lent.{Lent, diskSeen};
 ghost use Rattle.inode.specs.Slots.{TakenBy, SlotGood};
 use superblock::Inode;
 use superblock::Super;
+
+// Inode i, fetched through its block.
+pub fn read_inode<'a, 'b>(
+    blocks: &'b [u32; 30],
+    counts: &'b [u32; 30],
+    image: &'a [u8],
+    cache: &'a [u8],
+    s: Super,
+    i: u32,
+) -> Inode
+    requires { ⌜ GoodNumbers s × (i < s .ninodes) ⌝ }
+    ensures { λ r. ⌜ r ≡ inodeAt (seen (now (blocks .entry)) (now (counts .entry)) (bytes (now (cache .entry))) (bytes (now (image .entry)))) (inodeAddr s i) ⌝ }
+{
+    let b = s.inodestart + i / 16;
+    let t = bio::block_in(blocks, counts, image, cache, b);
+    superblock::inode_of(t, base::place(64 * (i % 16)))
+}
 
 // The block of the kth kilobyte of an inode's content: the one place where slots are looked up.
 pub fn file_block<'a, 'b>(

@@ -1,18 +1,19 @@
 -- The 14 bytes of a name: a component is cut at 14 bytes, or padded with zeros, and all 14 are compared (document 01, "Path"). Assumes nothing.
 use mathlib.Core.Path.{_≡_, refl, sym, ap, _∙_}
-use mathlib.Core.Bool.{Bool, true, false, cond}
+use mathlib.Core.Bool.{Bool, true, false}
 use mathlib.Core.List.{List}
 use Prim.Native.Nat.{ℕ, _+_, _<_, _≤_}
 use native.Mathlib.Omega.{arith}
-use lib.Dec.{eqb, ltb}
-use borrow.Author.Tests.{eq-eqb, ne-eqb, eqb-true, lt-ltb, le-ltb}
+use lib.Dec.{eqb}
+use borrow.Author.Tests.{eq-eqb, ne-eqb, eqb-true}
 use Rattle.base.specs.First.{all, all-yes, all-no, all-same}
-use Rattle.base.specs.Bytes.{Bytes, bytes}
+use Rattle.base.specs.Bytes.{Bytes, bytes, bytes-past}
 use Rattle.base.specs.Decide.{Decides, never}
+use Rattle.superblock.specs.Entry.{padded, padded-byte, padded-length}
 
--- byte t of the name that a component gives: its first 14 bytes, and zeros
-unfoldable pub nameOf : List ℕ → Bytes
-nameOf part t = cond (ltb t 14) (bytes part t) 0
+-- the bytes of the name that a component gives: its first 14, and zeros past its end
+abbrev pub nameOf : List ℕ → Bytes
+nameOf part = bytes (padded part)
 
 -- two names are the same in all 14 bytes
 unfoldable pub sameName : Bytes → Bytes → Bool
@@ -20,13 +21,8 @@ sameName f h = all (λ t. eqb (f t) (h t)) 14
 
 -- ---- laws
 
-pub name-byte : (part : List ℕ) (t : ℕ) → t < 14 → nameOf part t ≡ bytes part t
-unfolding nameOf
-name-byte part t l = rw (lt-ltb t 14 l)
-
 pub name-past : (part : List ℕ) (t : ℕ) → 14 ≤ t → nameOf part t ≡ 0
-unfolding nameOf
-name-past part t l = rw (le-ltb t 14 l)
+name-past part t l = sym (bytes-past (padded part) t (omega (arith, padded-length part)))
 
 pub same-yes : (f h : Bytes) → ((t : ℕ) → t < 14 → f t ≡ h t) → sameName f h ≡ true
 unfolding sameName
@@ -51,7 +47,7 @@ same-decides f h = record { true-is = λ e t l. go e t l (eqb (f t) (h t)) refl;
 
 -- as the code's loop reads a name's bytes
 pub differs : (f : Bytes) (part : List ℕ) (t x y : ℕ) → t < 14 → x ≡ f t → y ≡ bytes part t → (x ≡ y → ⊥) → false ≡ sameName f (nameOf part)
-differs f part t x y l a b n = sym (same-no f (nameOf part) t l (λ e. n (a ∙ e ∙ name-byte part t l ∙ sym b)))
+differs f part t x y l a b n = sym (same-no f (nameOf part) t l (λ e. n (a ∙ e ∙ padded-byte part t l ∙ sym b)))
 
 pub agrees : (f : Bytes) (part : List ℕ) → ((t : ℕ) → t < 14 → f t ≡ bytes part t) → true ≡ sameName f (nameOf part)
-agrees f part h = sym (same-yes f (nameOf part) (λ t l. h t l ∙ sym (name-byte part t l)))
+agrees f part h = sym (same-yes f (nameOf part) (λ t l. h t l ∙ sym (padded-byte part t l)))
