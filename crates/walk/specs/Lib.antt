@@ -2,3 +2,4 @@
 pub mod Step
 pub mod Walks
 pub mod Parents
+pub mod Reached

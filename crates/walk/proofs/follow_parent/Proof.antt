@@ -1,7 +1,8 @@
-use mathlib.Core.Path.{_≡_, refl, ap, sym, _∙_}
+-- follow_parent: the walk from where it stands is the walk asked for; Parents has a law for each turn. Each step takes a byte of the path.
+use mathlib.Core.Path.{_≡_, refl, sym, _∙_}
 use native.Mathlib.Omega.{arith}
-use Prim.Native.Nat.{ℕ, _+_, _-_, _*_, _<_, _≤_}
-use lib.ListN.{length, take, drop, length-take, length-drop}
+use Prim.Native.Nat.{_-_, _≤_}
+use lib.ListN.{length, drop, length-take, length-drop}
 use denote.Ref.{now}
 use Rattle.inode.specs.Lent.{diskSeen}
 use Rattle.walk.specs.Step.{From, step-led}
@@ -9,12 +10,6 @@ use Rattle.walk.specs.Parents.{parentOf, parentFrom, in-path, parent-non
 use borrow.Author.Needs.{needs}
 use Rattle.walk.proofs.follow_parent.Statement.{statement}
 use Rattle.walk.proofs.follow_parent.Tie as tie
-use Rattle.walk.proofs.follow_parent.Reads as reads
-use Rattle.walk.proofs.follow_parent.Lts as lts
-use Rattle.path.proofs.component.Reads as component-reads
-use Rattle.path.proofs.ended.Reads as ended-reads
-use Rattle.walk.proofs.advance.Reads as advance-reads
-use Rattle.walk.proofs.last_in.Reads as last-in-reads
 
 abbrev Inv-loop : tie.InvT-loop
 Inv-loop blocks counts image cache s from path i₀ at₀ i at = (at ≤ length path) × From s i × (parentFrom s (diskSeen s blocks counts cache image) i at (drop at path) ≡ parentOf s (diskSeen s blocks counts cache image) from path)
@@ -22,97 +17,75 @@ Inv-loop blocks counts image cache s from path i₀ at₀ i at = (at ≤ length 
 abbrev μ-loop : tie.MeasureT-loop
 μ-loop blocks counts image cache s from path i₀ at₀ i at = length path - at
 
--- src/lib.rt:147:5
 loop-holds : tie.Need-loop-holds Inv-loop μ-loop
 loop-holds c = (search needs, c .before .before .before .pre .1, refl)
 
--- src/lib.rt:148:31
 sub-component : tie.Need-sub-component Inv-loop μ-loop
 sub-component c = search needs
 
--- src/lib.rt:148:31
 part-component-start : tie.Need-part-component-start Inv-loop μ-loop
 part-component-start c = search needs
 
--- src/lib.rt:148:31
 part-component-end : tie.Need-part-component-end Inv-loop μ-loop
 part-component-end c = search needs
 
--- src/lib.rt:148:15
 component-requires : tie.Need-component-requires Inv-loop μ-loop
 component-requires c κs = search needs
 
--- src/lib.rt:149:26
 enum-known-start : tie.Need-enum-known-start Inv-loop μ-loop
 enum-known-start c = search needs
 
--- src/lib.rt:150:25
 add-b : tie.Need-add-b Inv-loop μ-loop
 add-b c = omega (arith, in-path (now (c .before .before .before .before .before .before .before .before .before .args .path)) (c .before .before .before .before .before .loop .at) _ _ (c .before .before .before .before .before .loop .inv .0) (sym (c .before .start .given .1) ∙ c .before .before .before .component .ensures))
 
--- src/lib.rt:151:25
 add-e : tie.Need-add-e Inv-loop μ-loop
 add-e c = omega (arith, in-path (now (c .before .before .before .before .before .before .before .before .before .args .path)) (c .before .before .before .before .before .loop .at) _ _ (c .before .before .before .before .before .loop .inv .0) (sym (c .before .start .given .1) ∙ c .before .before .before .component .ensures))
 
--- src/lib.rt:152:40
 sub-ended : tie.Need-sub-ended Inv-loop μ-loop
 sub-ended c = omega (arith, in-path (now (c .before .before .before .before .before .before .before .before .before .args .path)) (c .before .before .before .before .before .loop .at) _ _ (c .before .before .before .before .before .loop .inv .0) (sym (c .before .start .given .1) ∙ c .before .before .before .component .ensures))
 
--- src/lib.rt:152:40
 part-ended-start : tie.Need-part-ended-start Inv-loop μ-loop
 part-ended-start c = omega (arith, in-path (now (c .before .before .before .before .before .before .before .before .before .args .path)) (c .before .before .before .before .before .loop .at) _ _ (c .before .before .before .before .before .loop .inv .0) (sym (c .before .start .given .1) ∙ c .before .before .before .component .ensures))
 
--- src/lib.rt:152:40
 part-ended-end : tie.Need-part-ended-end Inv-loop μ-loop
 part-ended-end c = omega (arith, in-path (now (c .before .before .before .before .before .before .before .before .before .args .path)) (c .before .before .before .before .before .loop .at) _ _ (c .before .before .before .before .before .loop .inv .0) (sym (c .before .start .given .1) ∙ c .before .before .before .component .ensures))
 
--- src/lib.rt:152:21
 ended-requires : tie.Need-ended-requires Inv-loop μ-loop
 ended-requires c κs = search needs
 
--- src/lib.rt:154:21
 last-in-requires : tie.Need-last-in-requires Inv-loop μ-loop
 last-in-requires c κs = (c .before .before .before .before .before .before .before .before .before .before .before .before .pre .0, c .before .before .before .before .before .before .before .before .loop .inv .1)
 
--- src/lib.rt:154:21
 returns : tie.Need-returns Inv-loop μ-loop
 returns c =
     parent-last _ _ (c .before .before .before .before .before .before .before .before .before .loop .i) (c .before .before .before .before .before .before .before .before .before .loop .at) (now (c .before .before .before .before .before .before .before .before .before .before .before .before .before .args .path)) _ _ (sym (c .before .before .before .before .before .start .given .1) ∙ c .before .before .before .before .before .before .before .component .ensures) (c .before .before .ended .ensures) (c .before .if1 .taken) (c .last-in .result) (c .last-in .ensures)
     ∙ c .before .before .before .before .before .before .before .before .before .loop .inv .2
 
--- src/lib.rt:156:67
 sub-advance : tie.Need-sub-advance Inv-loop μ-loop
 sub-advance c = search needs
 
--- src/lib.rt:156:67
 part-advance-start : tie.Need-part-advance-start Inv-loop μ-loop
 part-advance-start c = search needs
 
--- src/lib.rt:156:67
 part-advance-end : tie.Need-part-advance-end Inv-loop μ-loop
 part-advance-end c = search needs
 
--- src/lib.rt:156:23
 advance-requires : tie.Need-advance-requires Inv-loop μ-loop
 advance-requires c κs = (c .before .before .before .before .before .before .before .before .before .before .before .before .before .pre .0, c .before .before .before .before .before .before .before .before .before .loop .inv .1)
 
--- src/lib.rt:157:32
 enum-known-inum : tie.Need-enum-known-inum Inv-loop μ-loop
 enum-known-inum c = search needs
 
--- src/lib.rt:159:25
 add-at : tie.Need-add-at Inv-loop μ-loop
 add-at c =
     let led = step-led _ _ _ _ _ _ (sym (c .before .before .before .advance .ensures) ∙ c .before .inum .given .1) in
     omega (arith, led .within, length-take (length (now (c .before .before .before .before .before .before .before .before .before .before .before .before .before .before .before .before .before .args .path)) - c .before .before .before .before .before .before .before .before .before .before .before .before .before .loop .at) (drop (c .before .before .before .before .before .before .before .before .before .before .before .before .before .loop .at) (now (c .before .before .before .before .before .before .before .before .before .before .before .before .before .before .before .before .before .args .path))), length-drop (c .before .before .before .before .before .before .before .before .before .before .before .before .before .loop .at) (now (c .before .before .before .before .before .before .before .before .before .before .before .before .before .before .before .before .before .args .path)))
 
--- src/lib.rt:147:5
 loop-less : tie.Need-loop-less Inv-loop μ-loop
 loop-less c =
     let led = step-led _ _ _ _ _ _ (sym (c .before .before .before .advance .ensures) ∙ c .before .inum .given .1) in
     omega (arith, led .within, led .took, length-take (length (now (c .before .before .before .before .before .before .before .before .before .before .before .before .before .before .before .before .before .args .path)) - c .before .before .before .before .before .before .before .before .before .before .before .before .before .loop .at) (drop (c .before .before .before .before .before .before .before .before .before .before .before .before .before .loop .at) (now (c .before .before .before .before .before .before .before .before .before .before .before .before .before .before .before .before .before .args .path))), length-drop (c .before .before .before .before .before .before .before .before .before .before .before .before .before .loop .at) (now (c .before .before .before .before .before .before .before .before .before .before .before .before .before .before .before .before .before .args .path)))
 
--- src/lib.rt:147:5
 loop-again : tie.Need-loop-again Inv-loop μ-loop
 loop-again c =
     let led = step-led _ _ _ _ _ _ (sym (c .before .before .before .advance .ensures) ∙ c .before .inum .given .1) in (
@@ -122,31 +95,25 @@ loop-again c =
           ∙ c .before .before .before .before .before .before .before .before .before .before .before .before .before .loop .inv .2,
     )
 
--- src/lib.rt:161:54
 enum-told : tie.Need-enum-told Inv-loop μ-loop
 enum-told c = search needs
 
--- src/lib.rt:161:35
 returns-2 : tie.Need-returns-2 Inv-loop μ-loop
 returns-2 c =
     sym (parent-stay _ _ (c .before .before .before .before .before .before .before .before .before .before .before .before .loop .i) (c .before .before .before .before .before .before .before .before .before .before .before .before .loop .at) (now (c .before .before .before .before .before .before .before .before .before .before .before .before .before .before .before .before .args .path)) _ _ (sym (c .before .before .before .before .before .before .before .before .start .given .1) ∙ c .before .before .before .before .before .before .before .before .before .before .component .ensures) (c .before .before .before .before .before .ended .ensures) (c .before .before .before .before .if1 .left) (sym (c .enum-told .given .1) ∙ c .before .before .advance .ensures))
     ∙ c .before .before .before .before .before .before .before .before .before .before .before .before .loop .inv .2
 
--- src/lib.rt:162:30
 enum-known-r : tie.Need-enum-known-r Inv-loop μ-loop
 enum-known-r c = search needs
 
--- src/lib.rt:162:36
 returns-3 : tie.Need-returns-3 Inv-loop μ-loop
 returns-3 c =
     sym (parent-no _ _ (c .before .before .before .before .before .before .before .before .before .before .before .before .before .loop .i) (c .before .before .before .before .before .before .before .before .before .before .before .before .before .loop .at) (now (c .before .before .before .before .before .before .before .before .before .before .before .before .before .before .before .before .before .args .path)) _ _ (sym (c .before .before .before .before .before .before .before .before .before .start .given .1) ∙ c .before .before .before .before .before .before .before .before .before .before .before .component .ensures) (c .before .before .before .before .before .before .ended .ensures) (c .before .before .before .before .before .if1 .left) _ (sym (c .before .r .given .1) ∙ c .before .before .before .advance .ensures))
     ∙ c .before .before .before .before .before .before .before .before .before .before .before .before .before .loop .inv .2
 
--- src/lib.rt:165:45
 enum-told-2 : tie.Need-enum-told-2 Inv-loop μ-loop
 enum-told-2 c = search needs
 
--- src/lib.rt:165:26
 returns-4 : tie.Need-returns-4 Inv-loop μ-loop
 returns-4 c = sym (parent-none _ _ (c .before .before .before .before .loop .i) (c .before .before .before .before .loop .at) (now (c .before .before .before .before .before .before .before .before .args .path)) (sym (c .enum-told2 .given .1) ∙ c .before .before .component .ensures)) ∙ c .before .before .before .before .loop .inv .2
 

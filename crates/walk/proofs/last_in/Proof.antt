@@ -1,39 +1,29 @@
-use mathlib.Core.Path.{_≡_, refl, ap, sym, _∙_}
-use Prim.Native.Nat.{ℕ, _+_, _-_, _*_, _<_, _≤_}
+-- last_in: a law of Parents for each answer.
+use Prim.Native.Nat.{_-_}
 use borrow.Author.Tests.{not-true, not-false}
 use Rattle.inode.specs.Fetch.{fetched}
 use Rattle.walk.specs.Parents.{last-unfit, last-no-directory, last-there}
-use borrow.Author.Needs.{needs}
 use Rattle.walk.proofs.last_in.Statement.{statement}
 use Rattle.walk.proofs.last_in.Tie as tie
-use Rattle.walk.proofs.last_in.Reads as reads
-use Rattle.walk.proofs.last_in.Lts as lts
-use Rattle.inode.proofs.fit.Reads as fit-reads
-use Rattle.inode.proofs.read_inode.Reads as read-inode-reads
 
--- src/lib.rt:117:9
 read-inode-requires : tie.Need-read-inode-requires
 read-inode-requires c κs = (c .before .before .pre .0 .numbers, c .before .before .pre .1 .inside)
 
--- src/lib.rt:118:9
 fit-requires : tie.Need-fit-requires
 fit-requires c κs = c .before .before .before .pre .0
 
--- src/lib.rt:120:9
 returns : tie.Need-returns
 returns c =
     last-unfit (c .before .before .before .before .before .args .s) _ (c .before .before .before .before .before .args .i) _ _ (c .before .before .read-inode .result)
     (fetched (c .before .before .before .before .before .args .s) _ (c .before .before .before .before .before .args .i) (c .before .before .read-inode .result) (c .before .before .before .before .before .pre .1 .some) (c .before .before .before .before .before .pre .1 .inside) (c .before .before .read-inode .ensures)) (c .before .fit .ensures)
     (not-true _ (c .if1 .taken))
 
--- src/lib.rt:123:9
 returns-2 : tie.Need-returns-2
 returns-2 c =
     last-no-directory (c .before .before .before .before .before .before .before .args .s) _ (c .before .before .before .before .before .before .before .args .i) _ _ (c .before .before .before .before .read-inode .result)
     (fetched (c .before .before .before .before .before .before .before .args .s) _ (c .before .before .before .before .before .before .before .args .i) (c .before .before .before .before .read-inode .result) (c .before .before .before .before .before .before .before .pre .1 .some) (c .before .before .before .before .before .before .before .pre .1 .inside) (c .before .before .before .before .read-inode .ensures)) (c .before .before .before .fit .ensures)
     (not-false _ (c .before .before .if1 .left)) (c .if2 .taken)
 
--- src/lib.rt:104:1
 returns-3 : tie.Need-returns-3
 returns-3 c =
     last-there (c .before .before .before .before .before .before .before .args .s) _ (c .before .before .before .before .before .before .before .args .i) _ _ (c .before .before .before .before .read-inode .result)
