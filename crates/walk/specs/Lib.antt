@@ -3,3 +3,4 @@ pub mod Step
 pub mod Walks
 pub mod Parents
 pub mod Reached
+pub mod Ends

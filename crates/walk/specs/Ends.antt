@@ -1,0 +1,48 @@
+-- A walk looks at nothing past the path's end, its first NUL: it is the walk of the path alone. Assumes nothing.
+use mathlib.Core.Path.{_≡_, refl, ap, sym, _∙_}
+use mathlib.Core.Bool.{Bool, true, false, cond}
+use mathlib.Core.List.{List}
+use Prim.Native.Nat.{ℕ, zero, suc, _+_, _-_, _*_, _<_, _≤_}
+use native.Mathlib.Omega.{arith}
+use lib.ListN.{take, drop, length, length-drop}
+use lib.Dec.{eqb}
+use Rattle.superblock.specs.declared.Super.{Super}
+use Rattle.superblock.specs.Disk.{Disk}
+use Rattle.inode.specs.FitOf.{fitOf}
+use Rattle.path.specs.Parts.{pathLen, partOf, partIn}
+use Rattle.path.specs.Names.{nameOf}
+use Rattle.path.specs.Cut.{cut, part-cut, part-before, part-bytes, rest-cut}
+use Rattle.path.specs.declared.Part.{Part}
+use Rattle.path.specs.declared.Part.the-variants.{Name, End}
+use Rattle.base.specs.declared.Refusal.{Refusal}
+use Rattle.base.specs.declared.Refusal.the-variants.{Unfit, NotDirectory, NoName}
+use Rattle.dir.specs.Lookup.{lookup}
+use Rattle.walk.specs.Step.{entered, sought, stepOf, step-led}
+use Rattle.walk.specs.Walks.{onward, walkOf, walk-is}
+use Rattle.walk.specs.declared.Step.{Step}
+use Rattle.walk.specs.declared.Step.the-variants.{To, Stay, No}
+use Rattle.walk.specs.declared.Walk.{Walk}
+
+module _ (s : Super) (v : Disk) where
+  sought-cut : (i : ℕ) (l : List ℕ) (p : Part) → partOf l ≡ p → sought s v i (cut l) p ≡ sought s v i l p
+  sought-cut i l End q = refl
+  sought-cut i l (Name b e) q = ap (λ (m : List ℕ). cond (eqb (v .ino i .kind) 1) (entered s e (lookup v i (nameOf m))) (No NotDirectory)) (part-bytes l b e q)
+
+  pub step-cut : (i : ℕ) (l : List ℕ) → stepOf s v i (cut l) ≡ stepOf s v i l
+  unfolding stepOf
+  step-cut i l = ap (λ (t : Step). cond (fitOf s v (v .ino i)) t (No Unfit)) (ap (sought s v i (cut l)) (part-cut l) ∙ sought-cut i l (partOf l) refl)
+
+  cut-in : (n i : ℕ) (l : List ℕ) → length l < n → walkOf s v i (cut l) ≡ walkOf s v i l
+  cut-in zero i l h = absurd (omega arith)
+  cut-in (suc n) i l h = walk-is s v i (cut l) ∙ ap (onward (walkOf s v) i (cut l)) (step-cut i l) ∙ go (stepOf s v i l) refl (λ j m. cut-in n j m) ∙ sym (walk-is s v i l)
+    where
+      go : (t : Step) → stepOf s v i l ≡ t → ((j : ℕ) (m : List ℕ) → length m < n → walkOf s v j (cut m) ≡ walkOf s v j m)
+          → onward (walkOf s v) i (cut l) t ≡ onward (walkOf s v) i l t
+      go (To j e) q rec =
+          let led = step-led s v i l j e q in
+          ap (walkOf s v j) (rest-cut l e (led .used)) ∙ rec j (drop e l) (omega (arith, length-drop e l, led .within, led .took))
+      go Stay q rec = refl
+      go (No r) q rec = refl
+
+  pub walk-cut : (i : ℕ) (l : List ℕ) → walkOf s v i (cut l) ≡ walkOf s v i l
+  walk-cut i l = cut-in (suc (length l)) i l (omega arith)
