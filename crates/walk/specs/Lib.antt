@@ -4,3 +4,4 @@ pub mod Walks
 pub mod Parents
 pub mod Reached
 pub mod Ends
+pub mod Cases
