@@ -5,3 +5,4 @@ pub mod Parents
 pub mod Reached
 pub mod Ends
 pub mod Cases
+pub mod Agree

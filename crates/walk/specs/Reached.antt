@@ -121,7 +121,7 @@ module _ (s : Super) (v : Disk) where
     pub ordered : b < e
     pub inside : e ≤ a + length l
 
-  last-is : (i c d : ℕ) (j b e : ℕ) → From s i → lastIn s v i c d ≡ Dir j b e → (i ≡ j) × (c ≡ b) × (d ≡ e) × Fit s v (v .ino i) × (v .ino i .kind ≡ 1)
+  pub last-is : (i c d : ℕ) (j b e : ℕ) → From s i → lastIn s v i c d ≡ Dir j b e → (i ≡ j) × (c ≡ b) × (d ≡ e) × Fit s v (v .ino i) × (v .ino i .kind ≡ 1)
   unfolding lastIn
   last-is i c d j b e f h = go (fitOf s v (v .ino i)) refl
     where
@@ -180,8 +180,11 @@ module _ (s : Super) (v : Disk) where
               }
           last false x = step rec (stepOf s v i l) refl (rw x at y)
 
+  pub parent-there-at : (i a : ℕ) (l : List ℕ) (j b e : ℕ) → From s i → parentFrom s v i a l ≡ Dir j b e → Parental l a j b e
+  parent-there-at i a l j b e f z = there (suc (length l)) i a l j b e (omega arith) f z
+
   pub parent-there : (i : ℕ) (l : List ℕ) (j b e : ℕ) → From s i → parentOf s v i l ≡ Dir j b e → Parental l 0 j b e
-  parent-there i l j b e f z = there (suc (length l)) i 0 l j b e (omega arith) f z
+  parent-there i l j b e f z = parent-there-at i 0 l j b e f z
 
   parent-only-in : (n i a : ℕ) (l : List ℕ) (x : Refusal) → length l < n → parentFrom s v i a l ≡ Not x → OfWalk x
   parent-only-in zero i a l x h z = absurd (omega arith)
