@@ -1,21 +1,20 @@
 -- A path ends at its first NUL: what follows it changes no component. So the length that refusal 2 looks at is that of the path that is walked.
 -- Assumes nothing.
-use mathlib.Core.Path.{_≡_, refl, ap, sym, _∙_}
+use mathlib.Core.Path.{_≡_, ap, sym, _∙_}
 use mathlib.Core.Bool.{Bool, true, false, not, cond}
 use mathlib.Core.List.{List}
-use Prim.Native.Nat.{ℕ, _+_, _-_, _*_, _<_, _≤_}
+use Prim.Native.Nat.{ℕ, _+_, _-_, _<_, _≤_}
 use native.Mathlib.Omega.{arith}
 use native.Mathlib.Decide.{decLt}
-use lib.ListN.{length, getD, take, drop, length-take, length-drop, List·getD-eq-default}
+use lib.ListN.{length, take, drop, length-drop}
 use lib.Seq.{getD-take, getD-drop, take-add, take-take, drop-at, length-take-le}
 use lib.Dec.{eqb}
 use borrow.Author.Tests.{eq-eqb, ne-eqb, eqb-false, eqb-true}
 use Rattle.base.specs.First.{first, firstFrom, first-at, first-none, first-same, from-at, from-none, first-le, first-holds, first-before}
 use Rattle.base.specs.Bytes.{Bytes, bytes, bytes-past}
 use Rattle.base.specs.Decide.{never}
-use Rattle.path.specs.Parts.{pathLen, other, other-yes, ends, ends-nul, startOf, endOf, start-le, partOf, partIn, part-within}
-use Rattle.path.specs.declared.Part.{Part}
-use Rattle.path.specs.declared.Part.the-variants.{Name, End}
+use Rattle.path.specs.Parts.{pathLen, other, other-yes, ends, ends-nul, startOf, endOf, partOf, partIn, part-within}
+use Rattle.path.specs.declared.Part.the-variants.{Name}
 
 -- the path alone: the bytes before its first NUL
 abbrev pub cut : List ℕ → List ℕ

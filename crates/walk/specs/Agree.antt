@@ -3,21 +3,20 @@
 use mathlib.Core.Path.{_≡_, refl, ap, sym, _∙_}
 use mathlib.Core.Bool.{Bool, true, false, cond}
 use mathlib.Core.List.{List}
-use Prim.Native.Nat.{ℕ, zero, suc, _+_, _-_, _*_, _<_, _≤_}
+use Prim.Native.Nat.{ℕ, zero, suc, _+_, _-_, _<_, _≤_}
 use native.Mathlib.Omega.{arith}
 use native.Mathlib.Nat.{le-of-lt}
-use lib.ListN.{take, drop, length, length-drop}
+use lib.ListN.{drop, length, length-drop}
 use lib.Seq.{drop-drop}
 use lib.Dec.{eqb, ltb}
 use borrow.Author.Tests.{eq-eqb}
-use Rattle.base.specs.declared.Refusal.{Refusal}
-use Rattle.base.specs.declared.Refusal.the-variants.{Unfit, NotDirectory, NoName}
+use Rattle.base.specs.declared.Refusal.the-variants.{Unfit, NoName}
 use Rattle.superblock.specs.declared.Super.{Super}
 use Rattle.superblock.specs.Disk.{Disk}
 use Rattle.rules.specs.Fit.{Fit}
 use Rattle.inode.specs.FitOf.{fitOf, fitOf-decides, decides-same}
 use Rattle.base.specs.Decide.{so}
-use Rattle.path.specs.Parts.{partOf, partIn, isEnd, part-within}
+use Rattle.path.specs.Parts.{partOf, partIn, isEnd}
 use Rattle.path.specs.Names.{nameOf}
 use Rattle.path.specs.declared.Part.{Part}
 use Rattle.path.specs.declared.Part.the-variants.{Name, End}
@@ -26,14 +25,13 @@ use Rattle.dir.specs.declared.Found.{Found}
 use Rattle.dir.specs.declared.Found.the-variants.{At, Missing}
 use Rattle.walk.specs.Step.{entered, sought, stepOf, step-led, From}
 use Rattle.walk.specs.Walks.{onward, walkOf, walk-is}
-use Rattle.walk.specs.Parents.{lastIn, upward, climb, parentFrom, parentOf, parent-is}
-use Rattle.walk.specs.Reached.{last-is, Parental, parent-there-at}
+use Rattle.walk.specs.Parents.{upward, climb, parentFrom, parentOf, parent-is}
+use Rattle.walk.specs.Reached.{last-is, parent-there-at}
 use Rattle.walk.specs.declared.Step.{Step}
 use Rattle.walk.specs.declared.Step.the-variants.{To, Stay, No}
 use Rattle.walk.specs.declared.Walk.{Walk}
 use Rattle.walk.specs.declared.Walk.the-variants.{Reached, Refused}
-use Rattle.walk.specs.declared.Parent.{Parent}
-use Rattle.walk.specs.declared.Parent.the-variants.{Dir, Not}
+use Rattle.walk.specs.declared.Parent.the-variants.{Dir}
 
 no-case : (A : Type 0) → _≡_ {A = ℕ} 0 1 → A
 no-case A z = absurd (omega arith)

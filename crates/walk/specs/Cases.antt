@@ -1,9 +1,9 @@
 -- Marked cases 11 and 12 of document 01, each by computing the definitions on a card given as bytes: case 1's, with two files in its root.
 -- Assumes nothing.
 use mathlib.Core.Path.{_≡_, refl}
-use mathlib.Core.Bool.{Bool, true, false, cond, _&&_}
+use mathlib.Core.Bool.{cond}
 use mathlib.Core.List.{List, [], _∷_}
-use Prim.Native.Nat.{ℕ, zero, suc, _+_, _-_, _*_, _<_, _≤_}
+use Prim.Native.Nat.{ℕ, _+_, _-_, _*_}
 use lib.Dec.{eqb}
 use Rattle.base.specs.First.{first, all, tabulate}
 use Rattle.base.specs.Bytes.{Bytes, bytes, put}
@@ -13,7 +13,7 @@ use Rattle.base.specs.declared.Refusal.the-variants.{NotDirectory}
 use Rattle.superblock.specs.declared.Super.{Super}
 use Rattle.superblock.specs.Entry.{padded}
 use Rattle.superblock.specs.Node.{Node, encoded, addrBytes, nodeIn, noNode}
-use Rattle.superblock.specs.Disk.{Disk, disk, inoOf, bitOf, memOf}
+use Rattle.superblock.specs.Disk.{disk, inoOf, bitOf, memOf}
 use Rattle.rules.specs.Fit.{entry, slot}
 use Rattle.rules.specs.Tree.{numOf, nameOf as treeName}
 use Rattle.inode.specs.FitOf.{fitOf, shapeOf, takenOf, slotFit}

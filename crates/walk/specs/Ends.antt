@@ -1,28 +1,26 @@
 -- A walk looks at nothing past the path's end, its first NUL: it is the walk of the path alone. Assumes nothing.
 use mathlib.Core.Path.{_≡_, refl, ap, sym, _∙_}
-use mathlib.Core.Bool.{Bool, true, false, cond}
+use mathlib.Core.Bool.{cond}
 use mathlib.Core.List.{List}
-use Prim.Native.Nat.{ℕ, zero, suc, _+_, _-_, _*_, _<_, _≤_}
+use Prim.Native.Nat.{ℕ, zero, suc, _+_, _-_, _<_}
 use native.Mathlib.Omega.{arith}
-use lib.ListN.{take, drop, length, length-drop}
+use lib.ListN.{drop, length, length-drop}
 use lib.Dec.{eqb}
 use Rattle.superblock.specs.declared.Super.{Super}
 use Rattle.superblock.specs.Disk.{Disk}
 use Rattle.inode.specs.FitOf.{fitOf}
-use Rattle.path.specs.Parts.{pathLen, partOf, partIn, isEnd}
+use Rattle.path.specs.Parts.{partOf, isEnd}
 use Rattle.path.specs.Names.{nameOf}
 use Rattle.path.specs.Cut.{cut, part-cut, part-before, part-bytes, rest-cut}
 use Rattle.path.specs.declared.Part.{Part}
 use Rattle.path.specs.declared.Part.the-variants.{Name, End}
-use Rattle.base.specs.declared.Refusal.{Refusal}
-use Rattle.base.specs.declared.Refusal.the-variants.{Unfit, NotDirectory, NoName}
+use Rattle.base.specs.declared.Refusal.the-variants.{Unfit, NotDirectory}
 use Rattle.dir.specs.Lookup.{lookup}
 use Rattle.walk.specs.Step.{entered, sought, stepOf, step-led}
 use Rattle.walk.specs.Walks.{onward, walkOf, walk-is}
 use Rattle.walk.specs.Parents.{lastIn, upward, climb, parentFrom, parentOf, parent-is}
 use Rattle.walk.specs.declared.Step.{Step}
 use Rattle.walk.specs.declared.Step.the-variants.{To, Stay, No}
-use Rattle.walk.specs.declared.Walk.{Walk}
 use Rattle.walk.specs.declared.Parent.{Parent}
 
 module _ (s : Super) (v : Disk) where
@@ -67,8 +65,8 @@ module _ (s : Super) (v : Disk) where
   parent-cut-in (suc n) i a l h =
       parent-is s v i a (cut l) ∙ ap (climb (parentFrom s v) s v i a (cut l)) (part-cut l)
       ∙ climb-cut (parentFrom s v) (parentFrom s v) i a l (partOf l) refl
-        (λ j e q. let led = step-led s v i l j e q in
-          ap (parentFrom s v j (a + e)) (rest-cut l e (led .used)) ∙ parent-cut-in n j (a + e) (drop e l) (omega (arith, length-drop e l, led .within, led .took)))
+      (λ j e q. let led = step-led s v i l j e q in
+      ap (parentFrom s v j (a + e)) (rest-cut l e (led .used)) ∙ parent-cut-in n j (a + e) (drop e l) (omega (arith, length-drop e l, led .within, led .took)))
       ∙ sym (parent-is s v i a l)
 
   pub parent-cut : (i : ℕ) (l : List ℕ) → parentOf s v i (cut l) ≡ parentOf s v i l

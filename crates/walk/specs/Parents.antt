@@ -3,12 +3,12 @@
 use mathlib.Core.Path.{_≡_, refl, ap, sym, _∙_}
 use mathlib.Core.Bool.{Bool, true, false, cond}
 use mathlib.Core.List.{List}
-use Prim.Native.Nat.{ℕ, zero, suc, _+_, _-_, _*_, _<_, _≤_}
+use Prim.Native.Nat.{ℕ, zero, suc, _+_, _-_, _<_, _≤_}
 use native.Mathlib.Omega.{arith}
 use lib.ListN.{take, drop, length, length-take, length-drop}
 use lib.Seq.{take-all, drop-drop}
 use lib.Dec.{eqb}
-use borrow.Author.Tests.{eq-eqb, ne-eqb, eqb-true}
+use borrow.Author.Tests.{eq-eqb, ne-eqb}
 use Rattle.base.specs.Bytes.{Bytes}
 use Rattle.base.specs.Decide.{Decides}
 use Rattle.base.specs.declared.Refusal.{Refusal}
@@ -22,7 +22,7 @@ use Rattle.inode.specs.FitOf.{fitOf, fitOf-decides, decides-same}
 use Rattle.path.specs.Parts.{partOf, isEnd, part-within}
 use Rattle.path.specs.declared.Part.{Part}
 use Rattle.path.specs.declared.Part.the-variants.{Name, End}
-use Rattle.walk.specs.Step.{stepOf, step-led, From}
+use Rattle.walk.specs.Step.{stepOf, step-led}
 use Rattle.walk.specs.declared.Step.{Step}
 use Rattle.walk.specs.declared.Step.the-variants.{To, Stay, No}
 use Rattle.walk.specs.declared.Parent.{Parent}

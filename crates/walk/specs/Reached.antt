@@ -1,11 +1,11 @@
 -- What a caller knows of a walk's answer: the inode reached is one of the card's and fit; the parent is one, fit and a directory, and the last
 -- component lies in the path; and a walk refuses with 5, 6 and 7 only. Assumes nothing.
-use mathlib.Core.Path.{_≡_, refl, ap, sym, _∙_}
+use mathlib.Core.Path.{_≡_, refl, sym, _∙_}
 use mathlib.Core.Bool.{Bool, true, false, cond}
 use mathlib.Core.List.{List}
-use Prim.Native.Nat.{ℕ, zero, suc, _+_, _-_, _*_, _<_, _≤_}
+use Prim.Native.Nat.{ℕ, zero, suc, _+_, _-_, _<_, _≤_}
 use native.Mathlib.Omega.{arith}
-use lib.ListN.{take, drop, length, length-drop}
+use lib.ListN.{drop, length, length-drop}
 use lib.Dec.{eqb, ltb}
 use borrow.Author.Tests.{eqb-true}
 use Rattle.base.specs.declared.Refusal.{Refusal}
@@ -26,9 +26,7 @@ use Rattle.walk.specs.Walks.{onward, walkOf, walk-is}
 use Rattle.walk.specs.Parents.{lastIn, upward, climb, parentFrom, parentOf, parent-is}
 use Rattle.walk.specs.declared.Step.{Step}
 use Rattle.walk.specs.declared.Step.the-variants.{To, Stay, No}
-use Rattle.walk.specs.declared.Walk.{Walk}
 use Rattle.walk.specs.declared.Walk.the-variants.{Reached, Refused}
-use Rattle.walk.specs.declared.Parent.{Parent}
 use Rattle.walk.specs.declared.Parent.the-variants.{Dir, Not}
 
 no-case : (A : Type 0) → _≡_ {A = ℕ} 0 1 → A

@@ -3,14 +3,13 @@
 use mathlib.Core.Path.{_≡_, refl, ap, sym, _∙_}
 use mathlib.Core.Bool.{Bool, true, false, cond}
 use mathlib.Core.List.{List}
-use Prim.Native.Nat.{ℕ, zero, suc, _+_, _-_, _*_, _<_, _≤_}
+use Prim.Native.Nat.{ℕ, _-_, _<_, _≤_}
 use native.Mathlib.Omega.{arith}
-use lib.ListN.{take, drop, length}
+use lib.ListN.{length}
 use lib.Dec.{eqb, ltb}
 use borrow.Author.Tests.{eq-eqb, ne-eqb, lt-ltb, le-ltb, ltb-true}
 use Rattle.base.specs.Bytes.{Bytes}
 use Rattle.base.specs.Decide.{Decides}
-use Rattle.base.specs.declared.Refusal.{Refusal}
 use Rattle.base.specs.declared.Refusal.the-variants.{Unfit, NotDirectory, NoName}
 use Rattle.superblock.specs.declared.Super.{Super}
 use Rattle.superblock.specs.declared.Inode.{Inode}

@@ -1,9 +1,8 @@
 -- The walk of a path: steps until no component is left or one is refused. `walk-is` is the equation that it satisfies, whatever the path;
 -- the number of steps in its definition is more than any path takes. Assumes nothing.
 use mathlib.Core.Path.{_≡_, refl, ap, sym, _∙_}
-use mathlib.Core.Bool.{Bool, true, false, cond}
 use mathlib.Core.List.{List}
-use Prim.Native.Nat.{ℕ, zero, suc, _+_, _-_, _*_, _<_, _≤_}
+use Prim.Native.Nat.{ℕ, zero, suc, _+_, _-_, _<_}
 use native.Mathlib.Omega.{arith}
 use lib.ListN.{take, drop, length, length-drop}
 use lib.Seq.{take-all, drop-drop}
