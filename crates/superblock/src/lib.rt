@@ -8,10 +8,11 @@ ghost use Rattle.base.specs.Bytes.{bytes, put};
 ghost use Rattle.base.specs.Number.{get as numAt};
 ghost use Rattle.base.specs.First.{tabulate};
 ghost use Rattle.base.specs.Decide.{Decides};
-ghost use Rattle.superblock.specs.Geometry.{Laid, GoodNumbers, Good, superOf};
+ghost use Rattle.superblock.specs.Geometry.{Laid, GoodNumbers, Good, superOf, inodeBlock, inodeByte};
 ghost use Rattle.superblock.specs.Node.{node, encoded, addrBytes, inodeAt};
 ghost use Rattle.superblock.specs.Record.{sized, linked, addressed};
 ghost use Rattle.superblock.specs.Entry.{entryAt, entryBytes, padded as paddedName};
+ghost use Rattle.superblock.specs.Blank.{Blank};
 
 // The superblock's numbers. The log starts at block 2 on every good card, so that number is not kept.
 pub struct Super {
@@ -108,6 +109,20 @@ pub fn good(image: &[u8]) -> bool
         return false;
     }
     image.len() == base::place(s.size) * 1024
+}
+
+// Where inode i is: its block, and the byte in it.
+pub fn inode_block(s: Super, i: u32) -> u32
+    requires { ⌜ s .inodestart < 65536 ⌝ }
+    ensures { λ r. ⌜ r ≡ inodeBlock s i ⌝ }
+{
+    s.inodestart + i / 16
+}
+
+pub fn inode_byte(i: u32) -> usize
+    ensures { λ r. ⌜ r ≡ inodeByte i ⌝ }
+{
+    64 * (i % 16) as usize
 }
 
 // The 13 addresses of a record that starts where the slice does.
@@ -220,4 +235,11 @@ pub fn put_entry(dst: &mut [u8], a: usize, e: Entry)
 {
     base::put_u16(dst, a, e.inum);
     base::copy_part(dst, a + 2, &e.name, 0, 14);
+}
+
+// A block of zeros by value: what is written for each newly taken block.
+pub fn zero_block() -> [u8; 1024]
+    ensures { λ r. ⌜ Blank r ⌝ }
+{
+    [0; 1024]
 }

@@ -1,35 +1,26 @@
+-- `superblock::super_of` meets its contract: each number is what `get_u32` reads at its place.
 use borrow.Author.Needs.{needs}
 use Rattle.superblock.proofs.super_of.Statement.{statement}
 use Rattle.superblock.proofs.super_of.Tie as tie
-use Rattle.superblock.proofs.super_of.Reads as reads
-use Rattle.superblock.proofs.super_of.Lts as lts
-use Rattle.base.proofs.get_u32.Reads as get-u32-reads
 
--- src/lib.rt:33:15
 get-u32-requires : tie.Need-get-u32-requires
 get-u32-requires c κs = search needs
 
--- src/lib.rt:34:18
 get-u32-requires-2 : tie.Need-get-u32-requires-2
 get-u32-requires-2 c κs = search needs
 
--- src/lib.rt:35:18
 get-u32-requires-3 : tie.Need-get-u32-requires-3
 get-u32-requires-3 c κs = search needs
 
--- src/lib.rt:36:15
 get-u32-requires-4 : tie.Need-get-u32-requires-4
 get-u32-requires-4 c κs = search needs
 
--- src/lib.rt:37:21
 get-u32-requires-5 : tie.Need-get-u32-requires-5
 get-u32-requires-5 c κs = search needs
 
--- src/lib.rt:38:20
 get-u32-requires-6 : tie.Need-get-u32-requires-6
 get-u32-requires-6 c κs = search needs
 
--- src/lib.rt:29:1
 returns : tie.Need-returns
 returns c = λ i. record {
   size = c .before .before .before .before .before .get-u32 .ensures i;
