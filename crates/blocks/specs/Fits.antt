@@ -44,12 +44,13 @@ module _ (g : Super) (v : Disk) (i k s : ℕ) (a : Is k (v .ino i .kind) 65536) 
   inode-slots n r z h e l d =
       let m : n ≡ slots (v .ino i .size) = e ∙ ap slots (b .eq) in
       alike
-        (λ f. inr (record
-          { shape = rw (a .eq, b .eq) at h
-          ; first = λ p q. f p (omega arith) .first (omega arith)
-          ; rest = λ p q t. f p t .rest (omega arith) }))
-        (λ o p q. let f = not-free z o in record { first = λ t. f .first p (omega arith); rest = λ t. f .rest p (omega arith) q })
-        d
+      (λ f. inr (record {
+        shape = rw (a .eq, b .eq) at h;
+        first = λ p q. f p (omega arith) .first (omega arith);
+        rest = λ p q t. f p t .rest (omega arith);
+      }))
+      (λ o p q. let f = not-free z o in record { first = λ t. f .first p (omega arith); rest = λ t. f .rest p (omega arith) q })
+      d
 
 module _ (g : Super) (m : Bytes) (few : 2 ≤ g .ninodes) where
   out : (i : ℕ) → g .ninodes ≤ i → inoOf g m i .kind ≡ 0
@@ -61,8 +62,8 @@ module _ (g : Super) (m : Bytes) (few : 2 ≤ g .ninodes) where
 
   pub s3-each : (k : ℕ) (r : Bool) → Is k (disk g m .ino 1 .kind) 65536 → k ≡ 1 → Decides r ((i : ℕ) → i < g .ninodes → InodeOk g (disk g m) i) → Decides r (S3 g (disk g m))
   s3-each k r a e d = alike
-    (λ f. record { root = sym (a .eq) ∙ e; each = λ i. elim (decLt i (g .ninodes)) [ yes l ↦ f i l | no l ↦ inl (out i (omega arith)) ] })
-    (λ s i l. s .each i) d
+      (λ f. record { root = sym (a .eq) ∙ e; each = λ i. elim (decLt i (g .ninodes)) [ yes l ↦ f i l | no l ↦ inl (out i (omega arith)) ] })
+      (λ s i l. s .each i) d
 
 -- how many slots are in use
 module _ (g : Super) (v : Disk) (s3 : S3 g v) (i k : ℕ) (a : Is k (v .ino i .kind) 65536) where

@@ -92,24 +92,27 @@ module _ (m : Bytes) (f : ℕ → ℕ) where
   pub marked-keeps : (n b : ℕ) → m b ≡ 1 → marked m f n b ≡ 1
   unfolding marked
   marked-keeps zero b h = h
-  marked-keeps (suc n) b h = elim (ℕ-discrete b (f n))
-    [ yes e ↦ rw (e, upd-same)
-    | no e ↦ upd-other (marked m f n) (f n) 1 b e ∙ marked-keeps n b h ]
+  marked-keeps (suc n) b h = elim (ℕ-discrete b (f n)) [
+    | yes e ↦ rw (e, upd-same)
+    | no e ↦ upd-other (marked m f n) (f n) 1 b e ∙ marked-keeps n b h
+  ]
 
   pub marked-has : (n p : ℕ) → p < n → marked m f n (f p) ≡ 1
   unfolding marked
   marked-has zero p l = absurd (omega arith)
-  marked-has (suc n) p l = elim (ℕ-discrete (f p) (f n))
-    [ yes e ↦ rw (e, upd-same)
-    | no e ↦ upd-other (marked m f n) (f n) 1 (f p) e ∙ marked-has n p (elim (ℕ-discrete p n) [ yes q ↦ absurd (e (ap f q)) | no q ↦ omega arith ]) ]
+  marked-has (suc n) p l = elim (ℕ-discrete (f p) (f n)) [
+    | yes e ↦ rw (e, upd-same)
+    | no e ↦ upd-other (marked m f n) (f n) 1 (f p) e ∙ marked-has n p (elim (ℕ-discrete p n) [ yes q ↦ absurd (e (ap f q)) | no q ↦ omega arith ])
+  ]
 
   -- a mark comes from somewhere
   pub marked-from : (n b : ℕ) → marked m f n b ≢ 0 → (m b ≢ 0) ⊎ ((p : ℕ) × (p < n) × (f p ≡ b))
   unfolding marked
   marked-from zero b h = inl h
-  marked-from (suc n) b h = elim (ℕ-discrete b (f n))
-    [ yes e ↦ inr (n, omega arith, sym e)
-    | no e ↦ more (marked-from n b (λ z. h (upd-other (marked m f n) (f n) 1 b e ∙ z))) ]
+  marked-from (suc n) b h = elim (ℕ-discrete b (f n)) [
+    | yes e ↦ inr (n, omega arith, sym e)
+    | no e ↦ more (marked-from n b (λ z. h (upd-other (marked m f n) (f n) 1 b e ∙ z)))
+  ]
     where
       more : (m b ≢ 0) ⊎ ((p : ℕ) × (p < n) × (f p ≡ b)) → (m b ≢ 0) ⊎ ((p : ℕ) × (p < suc n) × (f p ≡ b))
       more (inl x) = inl x
@@ -132,9 +135,10 @@ module _ (m : Bytes) (v : Disk) where
   pub all-has : (n i p : ℕ) → i < n → p < count v i → markedAll m v n (held v i p) ≡ 1
   unfolding markedAll
   all-has zero i p l k = absurd (omega arith)
-  all-has (suc n) i p l k = elim (ℕ-discrete i n)
-    [ yes e ↦ rw e (marked-has (markedAll m v n) (held v n) (count v n) p (rw e at k))
-    | no e ↦ marked-keeps (markedAll m v n) (held v n) (count v n) (held v i p) (all-has n i p (omega arith) k) ]
+  all-has (suc n) i p l k = elim (ℕ-discrete i n) [
+    | yes e ↦ rw e (marked-has (markedAll m v n) (held v n) (count v n) p (rw e at k))
+    | no e ↦ marked-keeps (markedAll m v n) (held v n) (count v n) (held v i p) (all-has n i p (omega arith) k)
+  ]
 
   pub all-from : (n b : ℕ) → m b ≡ 0 → markedAll m v n b ≢ 0 → Below v n b
   unfolding markedAll
@@ -150,11 +154,12 @@ module _ (m : Bytes) (v : Disk) where
 module _ (g : Super) (ok : GoodNumbers g) (d : Bytes) (s3 : S3 g (disk g d)) where
   pub count-in : (i p : ℕ) → p < count (disk g d) i → i < g .ninodes
   unfolding noNode
-  count-in i p l = elim (decLt i (g .ninodes))
-    [ yes h ↦ h
+  count-in i p l = elim (decLt i (g .ninodes)) [
+    | yes h ↦ h
     | no h ↦
         let z : inoOf g d i ≡ noNode = ino-high g d i (omega (arith, ok .inodes-least)) (omega arith) in
-        let q : count (disk g d) i ≡ 0 = ap (λ (r : Node). inUse (r .kind) (r .size)) z in absurd (omega arith) ]
+        let q : count (disk g d) i ≡ 0 = ap (λ (r : Node). inUse (r .kind) (r .size)) z in absurd (omega arith)
+  ]
 
   -- what is held is a data block
   pub held-taken : (i p : ℕ) → p < count (disk g d) i → Taken g (disk g d) (held (disk g d) i p)
@@ -184,18 +189,20 @@ module _ (g : Super) (ok : GoodNumbers g) (d m : Bytes) (clear : (b : ℕ) → b
       let c = fr i (count-in g ok d s3 i q lq) q lq in omega arith
 
   once : FreshAll m (disk g d) (g .ninodes) → (i j p q : ℕ) → p < count (disk g d) i → q < count (disk g d) j → held (disk g d) i p ≡ held (disk g d) j q → (i ≡ j) × (p ≡ q)
-  once fr i j p q lp lq e = elim (ℕ-discrete i j)
-    [ yes z ↦
+  once fr i j p q lp lq e = elim (ℕ-discrete i j) [
+    | yes z ↦
         let lq' : q < count (disk g d) i = rw z lq in
         let e' : held (disk g d) i p ≡ held (disk g d) i q = e ∙ ap (λ (x : ℕ). held (disk g d) x q) (sym z) in
         (z, elim (decLt p q) [ yes s ↦ absurd (within fr i p q lp lq' e' s) | no s ↦ elim (decLt q p) [ yes s₂ ↦ absurd (within fr i q p lq' lp (sym e') s₂) | no s₂ ↦ omega arith ] ])
-    | no z ↦ absurd (elim (decLt i j) [ yes s ↦ before fr i j p q lp lq e s | no s ↦ before fr j i q p lq lp (sym e) (omega arith) ]) ]
+    | no z ↦ absurd (elim (decLt i j) [ yes s ↦ before fr i j p q lp lq e s | no s ↦ before fr j i q p lq lp (sym e) (omega arith) ])
+  ]
 
   -- if each block is held once, each is fresh in its turn
   pub s4-fresh : S4 g (disk g d) → FreshAll m (disk g d) (g .ninodes)
-  s4-fresh s4 i l p lp = elim (ℕ-discrete (marked (markedAll m (disk g d) i) (held (disk g d) i) p (held (disk g d) i p)) 0)
-    [ yes z ↦ z
-    | no z ↦ absurd (bad (marked-from (markedAll m (disk g d) i) (held (disk g d) i) p (held (disk g d) i p) z)) ]
+  s4-fresh s4 i l p lp = elim (ℕ-discrete (marked (markedAll m (disk g d) i) (held (disk g d) i) p (held (disk g d) i p)) 0) [
+    | yes z ↦ z
+    | no z ↦ absurd (bad (marked-from (markedAll m (disk g d) i) (held (disk g d) i) p (held (disk g d) i p) z))
+  ]
     where
       bad : (markedAll m (disk g d) i (held (disk g d) i p) ≢ 0) ⊎ ((q : ℕ) × (q < p) × (held (disk g d) i q ≡ held (disk g d) i p)) → ⊥
       bad (inl x) =
@@ -220,19 +227,22 @@ module _ (g : Super) (ok : GoodNumbers g) (d m : Bytes) (clear : (b : ℕ) → b
         mark-of b l e = all-from m (disk g d) (g .ninodes) b (clear b l) (λ z. let q : n b ≡ 0 = ap (λ (x : Bytes). x b) marks ∙ z in omega arith)
 
         to : ((b : ℕ) → b < 8192 → BitOk g (disk g d) b (n b)) → S4 g (disk g d)
-        to f = record
-          { once = once fr
-          ; low = λ b l. f b (omega (arith, ok .laid .nblocks, ok .laid .some, ok .size-most)) .low l
-          ; taken = λ i p l. held-taken g ok d s3 i p l .isSet
-          ; only = λ b l e. elim (decLt b 8192)
-              [ yes h ↦ let w = mark-of b (omega arith) (f b h .only l e) in record { i = w .i; p = w .p; live = w .live; here = w .here }
-              | no h ↦ absurd (let z : bitOf g d b ≡ 0 = high-bit b (omega arith) in omega arith) ] }
+        to f = record {
+          once = once fr;
+          low = λ b l. f b (omega (arith, ok .laid .nblocks, ok .laid .some, ok .size-most)) .low l;
+          taken = λ i p l. held-taken g ok d s3 i p l .isSet;
+          only = λ b l e. elim (decLt b 8192) [
+            | yes h ↦ let w = mark-of b (omega arith) (f b h .only l e) in record { i = w .i; p = w .p; live = w .live; here = w .here }
+            | no h ↦ absurd (let z : bitOf g d b ≡ 0 = high-bit b (omega arith) in omega arith)
+          ];
+        }
 
         from : S4 g (disk g d) → (b : ℕ) → b < 8192 → BitOk g (disk g d) b (n b)
-        from s b l = record
-          { low = s .low b
-          ; taken = λ _ e. let w = mark-of b (omega arith) e in rw (← w .here) (s .taken (w .i) (w .p) (w .live))
-          ; only = λ k e. let w = s .only b k e in rw (marks, ← w .here) (all-has m (disk g d) (g .ninodes) (w .i) (w .p) (count-in g ok d s3 (w .i) (w .p) (w .live)) (w .live)) }
+        from s b l = record {
+          low = s .low b;
+          taken = λ _ e. let w = mark-of b (omega arith) e in rw (← w .here) (s .taken (w .i) (w .p) (w .live));
+          only = λ k e. let w = s .only b k e in rw (marks, ← w .here) (all-has m (disk g d) (g .ninodes) (w .i) (w .p) (count-in g ok d s3 (w .i) (w .p) (w .live)) (w .live));
+        }
 
 -- what clearing leaves
 pub cleared : (m d : Bytes) → m ≡ put d 0 65536 (λ k. 0) → (b : ℕ) → b < 65536 → m b ≡ 0

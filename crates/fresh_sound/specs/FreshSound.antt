@@ -90,29 +90,32 @@ module _ (g : Super) (ok : GoodNumbers g) where
   ]
 
   root-fit : Fit g v (rootNode (dataStart g))
-  root-fit = record
-    { shape = record { used = omega arith; known = omega arith; small = omega arith; dir = λ _. (omega arith, refl); dev = λ e. absurd (omega arith) }
-    ; first = λ p h. first p (omega arith)
-    ; rest = λ p h l. slot-rest p (omega arith) }
+  root-fit = record {
+    shape = record { used = omega arith; known = omega arith; small = omega arith; dir = λ _. (omega arith, refl); dev = λ e. absurd (omega arith) };
+    first = λ p h. first p (omega arith);
+    rest = λ p h l. slot-rest p (omega arith);
+  }
     where
       first : (p : ℕ) → p ≡ 0 → Taken g v (slot (v .mem) (rootNode (dataStart g)) p)
       first p e = rw (e, slot-first) (record { low = omega arith; high = omega (arith, ok .laid .nblocks, ok .laid .some); isSet = set-bit (dataStart g) (omega arith) })
 
   fresh-S3 : S3 g v
   unfolding noNode
-  fresh-S3 = record
-    { root = rw ino-root
-    ; each = λ i. elim (ℕ-discrete i 1) [
+  fresh-S3 = record {
+    root = rw ino-root;
+    each = λ i. elim (ℕ-discrete i 1) [
       | yes z ↦ rw (z, ino-root) (inr root-fit)
       | no z ↦ rw (ino-free i z) (inl refl)
-      ] }
+    ];
+  }
 
   fresh-S4 : S4 g v
-  fresh-S4 = record
-    { once = λ i j p q h l _. let e = one i p h in let f = one j q l in (e .0 ∙ sym (f .0), e .1 ∙ sym (f .1))
-    ; low = λ b h. set-bit b (omega arith)
-    ; taken = λ i p h. let e = one i p h in rw (e .0, e .1, root-held) (set-bit (dataStart g) (omega arith))
-    ; only = λ b l h. record { i = 1; p = 0; live = rw ino-root (omega arith); here = root-held ∙ omega (arith, clear-bit b h) } }
+  fresh-S4 = record {
+    once = λ i j p q h l _. let e = one i p h in let f = one j q l in (e .0 ∙ sym (f .0), e .1 ∙ sym (f .1));
+    low = λ b h. set-bit b (omega arith);
+    taken = λ i p h. let e = one i p h in rw (e .0, e .1, root-held) (set-bit (dataStart g) (omega arith));
+    only = λ b l h. record { i = 1; p = 0; live = rw ino-root (omega arith); here = root-held ∙ omega (arith, clear-bit b h) };
+  }
 
   -- ---- the root's entries
 
@@ -209,10 +212,14 @@ module _ (g : Super) (ok : GoodNumbers g) where
   same-low (suc (suc k)) l a b s = omega arith
 
   root-dir : Dir (tree v) 1
-  root-dir = record
-    { self = num-0; selfName = name-0; upName = name-1
-    ; live = λ k h z. absurd (z (num-past k h)); named = λ k h z. absurd (z (num-past k h))
-    ; once = λ k l a b s. same-low k l (low-entry k a) (low-entry l b) s }
+  root-dir = record {
+    self = num-0;
+    selfName = name-0;
+    upName = name-1;
+    live = λ k h z. absurd (z (num-past k h));
+    named = λ k h z. absurd (z (num-past k h));
+    once = λ k l a b s. same-low k l (low-entry k a) (low-entry l b) s;
+  }
 
   fresh-S5 : S5 (tree v)
   fresh-S5 = record { each = λ i h. rw (is-root i h) root-dir }
@@ -242,14 +249,15 @@ module _ (g : Super) (ok : GoodNumbers g) where
   -- an image with just the bytes that format writes for these numbers is sound
   pub fresh-sound : (image : List ℕ) → bytes image ≡ fresh g → length image ≡ g .size * 1024 → Sound image
   unfolding v
-  fresh-sound image e l = record
-    { s1 = record { good = good-fresh g ok image e l }
-    ; s2 = record { empty = ap (λ (d : Bytes). get d 2048 4) e ∙ le-cong 4 (λ k. fresh g (2048 + k)) zeros (λ k h. log-fresh g ok (2048 + k) (omega arith) (omega (arith, ok .laid .inodestart, ok .log-least))) ∙ four-zeros }
-    ; s3 = by (λ s d. S3 s (disk s d)) (subst (λ (w : Disk). S3 g w) (sym (disk-fresh g ok)) fresh-S3)
-    ; s4 = by (λ s d. S4 s (disk s d)) (subst (λ (w : Disk). S4 g w) (sym (disk-fresh g ok)) fresh-S4)
-    ; s5 = by (λ s d. S5 (tree (disk s d))) (subst (λ (w : Disk). S5 (tree w)) (sym (disk-fresh g ok)) fresh-S5)
-    ; s6 = by (λ s d. S6 s (tree (disk s d))) (subst (λ (w : Disk). S6 g (tree w)) (sym (disk-fresh g ok)) fresh-S6)
-    ; s7 = by (λ s d. S7 s (tree (disk s d))) (subst (λ (w : Disk). S7 g (tree w)) (sym (disk-fresh g ok)) fresh-S7) }
+  fresh-sound image e l = record {
+    s1 = record { good = good-fresh g ok image e l };
+    s2 = record { empty = ap (λ (d : Bytes). get d 2048 4) e ∙ le-cong 4 (λ k. fresh g (2048 + k)) zeros (λ k h. log-fresh g ok (2048 + k) (omega arith) (omega (arith, ok .laid .inodestart, ok .log-least))) ∙ four-zeros };
+    s3 = by (λ s d. S3 s (disk s d)) (subst (λ (w : Disk). S3 g w) (sym (disk-fresh g ok)) fresh-S3);
+    s4 = by (λ s d. S4 s (disk s d)) (subst (λ (w : Disk). S4 g w) (sym (disk-fresh g ok)) fresh-S4);
+    s5 = by (λ s d. S5 (tree (disk s d))) (subst (λ (w : Disk). S5 (tree w)) (sym (disk-fresh g ok)) fresh-S5);
+    s6 = by (λ s d. S6 s (tree (disk s d))) (subst (λ (w : Disk). S6 g (tree w)) (sym (disk-fresh g ok)) fresh-S6);
+    s7 = by (λ s d. S7 s (tree (disk s d))) (subst (λ (w : Disk). S7 g (tree w)) (sym (disk-fresh g ok)) fresh-S7);
+  }
     where
       -- of the card's own numbers
       by : (P : Super → Bytes → Type 0) → P g (fresh g) → P (superOf (bytes image)) (bytes image)

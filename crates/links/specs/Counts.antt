@@ -44,9 +44,10 @@ sum-at a b f e = ap (λ (x : ℕ). sumTo x f) e
 pub sum-stop : (n k : ℕ) (f : ℕ → ℕ) → ((j : ℕ) → n ≤ j → f j ≡ 0) → n ≤ k → sumTo k f ≡ sumTo n f
 unfolding sumTo
 sum-stop n zero f h l = sum-at 0 n f (omega arith)
-sum-stop n (suc k) f h l = elim (decLe n k)
-  [ yes m ↦ omega (arith, sum-stop n k f h m, h k m)
-  | no m ↦ sum-at (suc k) n f (omega arith) ]
+sum-stop n (suc k) f h l = elim (decLe n k) [
+  | yes m ↦ omega (arith, sum-stop n k f h m, h k m)
+  | no m ↦ sum-at (suc k) n f (omega arith)
+]
 
 sum-le : (n : ℕ) (f : ℕ → ℕ) → ((j : ℕ) → f j ≤ 1) → sumTo n f ≤ n
 unfolding sumTo
@@ -84,24 +85,28 @@ pub row-start : (t : Tree) (j : ℕ) (u : Bytes) → Row t j 2 u u
 row-start t j u = record { eq = λ i l. omega (arith, two t i j); le = λ i l. omega arith }
 
 pub row-turn : (t : Tree) (j k : ℕ) (u : Bytes) (l : List ℕ) (x c : ℕ) → Row t j k u (bytes l) → 2 ≤ k → x ≡ t .num j k → x < length l → c ≡ getD l x 0 → Row t j (k + 1) u (bytes (set l x (c + 1)))
-row-turn t j k u l x c r h e m q = record
-  { eq = λ i a. elim (ℕ-discrete i x)
-      [ yes z ↦ rw z (getD-set-same l x (c + 1) 0 m ∙ omega (arith, r .eq x (rw z at a), q, sum-more k (tally t x j), tally-here t x j k h (sym e)))
-      | no z ↦ getD-set-other l x i (c + 1) 0 z ∙ omega (arith, r .eq i a, sum-more k (tally t i j), tally-other t i j k h (λ y. z (sym y ∙ sym e))) ]
-  ; le = λ i a. elim (ℕ-discrete i x)
-      [ yes z ↦ rw (z, getD-set-same l x (c + 1) 0 m) (omega (arith, r .le x (rw z at a), q))
-      | no z ↦ rw (getD-set-other l x i (c + 1) 0 z) (omega (arith, r .le i a)) ] }
+row-turn t j k u l x c r h e m q = record {
+  eq = λ i a. elim (ℕ-discrete i x) [
+    | yes z ↦ rw z (getD-set-same l x (c + 1) 0 m ∙ omega (arith, r .eq x (rw z at a), q, sum-more k (tally t x j), tally-here t x j k h (sym e)))
+    | no z ↦ getD-set-other l x i (c + 1) 0 z ∙ omega (arith, r .eq i a, sum-more k (tally t i j), tally-other t i j k h (λ y. z (sym y ∙ sym e)))
+  ];
+  le = λ i a. elim (ℕ-discrete i x) [
+    | yes z ↦ rw (z, getD-set-same l x (c + 1) 0 m) (omega (arith, r .le x (rw z at a), q))
+    | no z ↦ rw (getD-set-other l x i (c + 1) 0 z) (omega (arith, r .le i a))
+  ];
+}
 
 pub row-done : (v : Disk) (j k n : ℕ) (u w : Bytes) → Row (tree v) j k u w → Ends v j n → n ≤ k → 2 ≤ k → k ≤ 17152 → (i : ℕ) → i < 65536 → Added i (u i) (namesIn (tree v) i j) (w i)
-row-done v j k n u w r e l h m i a = record
-  { eq = λ z. omega (arith, r .eq i a, sum-stop k 17152 (tally (tree v) i j) (λ q s. tally-other (tree v) i j q (omega arith) (λ y. let g = e .gone q (omega arith) in omega arith)) m)
-  ; le = omega (arith, r .le i a) }
+row-done v j k n u w r e l h m i a = record {
+  eq = λ z. omega (arith, r .eq i a, sum-stop k 17152 (tally (tree v) i j) (λ q s. tally-other (tree v) i j q (omega arith) (λ y. let g = e .gone q (omega arith) in omega arith)) m);
+  le = omega (arith, r .le i a);
+}
 
 -- ---- the loop over directories
 
 pub all-turn : (t : Tree) (j : ℕ) (u w : Bytes) → ((i : ℕ) → i < 65536 → Upto t j i (u i)) → ((i : ℕ) → i < 65536 → Added i (u i) (namesIn t i j) (w i)) → (i : ℕ) → i < 65536 → Upto t (j + 1) i (w i)
 all-turn t j u w h a i l = record
-  { eq = λ z. omega (arith, a i l .eq z, h i l .eq z, sum-more j (namesIn t i)); le = omega (arith, a i l .le, h i l .le) }
+    { eq = λ z. omega (arith, a i l .eq z, h i l .eq z, sum-more j (namesIn t i)); le = omega (arith, a i l .le, h i l .le) }
 
 pub all-start : (t : Tree) (u : Bytes) → ((i : ℕ) → i < 65536 → u i ≡ 0) → (i : ℕ) → i < 65536 → Upto t 0 i (u i)
 unfolding sumTo
@@ -120,30 +125,34 @@ pub record LinkOk (t : Tree) (i n : ℕ) : Type 0 where
 module _ (g : Super) (d : Bytes) (ok : GoodNumbers g) (m : Bytes) (counts : Counts g (tree (disk g d)) m) where
   kind-in : (i : ℕ) → 1 ≤ inoOf g d i .kind → i < g .ninodes
   unfolding noNode
-  kind-in i h = elim (decLt i (g .ninodes))
-    [ yes l ↦ l
-    | no l ↦ let z : inoOf g d i .kind ≡ 0 = ap (λ (r : Node). r .kind) (ino-high g d i (omega (arith, ok .inodes-least)) (omega arith)) in absurd (omega arith) ]
+  kind-in i h = elim (decLt i (g .ninodes)) [
+    | yes l ↦ l
+    | no l ↦ let z : inoOf g d i .kind ≡ 0 = ap (λ (r : Node). r .kind) (ino-high g d i (omega (arith, ok .inodes-least)) (omega arith)) in absurd (omega arith)
+  ]
 
   kind-pos : (i : ℕ) → 1 ≤ inoOf g d i .kind → 0 < i
   unfolding noNode
-  kind-pos i h = elim (decLt 0 i)
-    [ yes l ↦ l
-    | no l ↦ let z : inoOf g d i .kind ≡ 0 = ap (λ (r : Node). r .kind) (Rattle.reads.specs.Read.ino-low g d i (omega arith)) in absurd (omega arith) ]
+  kind-pos i h = elim (decLt 0 i) [
+    | yes l ↦ l
+    | no l ↦ let z : inoOf g d i .kind ≡ 0 = ap (λ (r : Node). r .kind) (Rattle.reads.specs.Read.ino-low g d i (omega arith)) in absurd (omega arith)
+  ]
 
   pub s7-to : inoOf g d 1 .nlink ≡ 1 → ((i : ℕ) → 0 < i → i < g .ninodes → LinkOk (tree (disk g d)) i (m i)) → S7 g (tree (disk g d))
-  s7-to r f = record
-    { root = r
-    ; dirs = λ i e n. f i (kind-pos i (omega arith)) (kind-in i (omega arith)) .dir e n
-    ; others = λ i h.
+  s7-to r f = record {
+    root = r;
+    dirs = λ i e n. f i (kind-pos i (omega arith)) (kind-in i (omega arith)) .dir e n;
+    others = λ i h.
         let l : i < g .ninodes = kind-in i (omega arith) in
         let p : 0 < i = kind-pos i (omega arith) in
         let x = f i p l .other h in
-        (x .0 ∙ counts i p (omega (arith, ok .inodes-most)), x .1, x .2) }
+        (x .0 ∙ counts i p (omega (arith, ok .inodes-most)), x .1, x .2);
+  }
 
   pub s7-from : S7 g (tree (disk g d)) → (i : ℕ) → 0 < i → i < g .ninodes → LinkOk (tree (disk g d)) i (m i)
-  s7-from s i p l = record
-    { dir = s .dirs i
-    ; other = λ h. let x = s .others i h in (x .0 ∙ sym (counts i p (omega (arith, ok .inodes-most))), x .1, x .2) }
+  s7-from s i p l = record {
+    dir = s .dirs i;
+    other = λ h. let x = s .others i h in (x .0 ∙ sym (counts i p (omega (arith, ok .inodes-most))), x .1, x .2);
+  }
 
 -- ---- the returns of the test of one inode
 
@@ -169,8 +178,8 @@ module _ (v : Disk) (i n d l : ℕ) (a : Is d (v .ino i .kind) 65536) (b : Is l 
 
     pub link-count : (r : Bool) → 1 ≤ l → l ≤ 32767 → Decides r (l ≡ n) → Decides r (LinkOk (tree v) i n)
     link-count r h k x = alike
-      (λ e. record { dir = λ e₂ _. absurd (omega (arith, a .eq)); other = λ _. (sym (b .eq) ∙ e, omega (arith, b .eq), omega (arith, b .eq)) })
-      (λ o. b .eq ∙ o .other two-up .0) x
+        (λ e. record { dir = λ e₂ _. absurd (omega (arith, a .eq)); other = λ _. (sym (b .eq) ∙ e, omega (arith, b .eq), omega (arith, b .eq)) })
+        (λ o. b .eq ∙ o .other two-up .0) x
 
 -- ---- loops
 

@@ -48,23 +48,24 @@ module _ (f : ℕ → ℕ) (t x : ℕ) (a : x ≡ f t) where
     -- a zero that is not the first byte is fine
     pub letter-zero : (r : Bool) → x ≡ 0 → Decides r (t ≢ 0) → Decides r (LetterOk f t)
     letter-zero r e d = alike
-      (λ z. record { noSlash = λ y. n (a ∙ y); some = λ y. absurd (z y); after = λ _ _. sym (a) ∙ e })
-      (λ o z. o .some z (sym (a) ∙ e)) d
+        (λ z. record { noSlash = λ y. n (a ∙ y); some = λ y. absurd (z y); after = λ _ _. sym (a) ∙ e })
+        (λ o z. o .some z (sym (a) ∙ e)) d
 
     pub letter-first : (x ≡ 0 → ⊥) → t ≡ 0 → Decides true (LetterOk f t)
     letter-first e z = so (record { noSlash = λ y. n (a ∙ y); some = λ _ y. e (a ∙ y); after = λ l _. absurd (omega arith) })
 
     pub letter-next : (y : ℕ) (r : Bool) → (x ≡ 0 → ⊥) → (t ≡ 0 → ⊥) → y ≡ f (t - 1) → Decides r (y ≢ 0) → Decides r (LetterOk f t)
     letter-next y r e z b d = alike
-      (λ p. record { noSlash = λ q. n (a ∙ q); some = λ q. absurd (z q); after = λ _ q. absurd (p (b ∙ q)) })
-      (λ o p. e (a ∙ o .after (omega arith) (sym (b) ∙ p))) d
+        (λ p. record { noSlash = λ q. n (a ∙ q); some = λ q. absurd (z q); after = λ _ q. absurd (p (b ∙ q)) })
+        (λ o p. e (a ∙ o .after (omega arith) (sym (b) ∙ p))) d
 
 module _ (f : ℕ → ℕ) where
   pub name-to : ((t : ℕ) → t < 14 → LetterOk f t) → GoodName f
-  name-to h = record
-    { some = h 0 (omega arith) .some refl
-    ; noSlash = λ t l. h t l .noSlash
-    ; padded = λ s t l m z. down t s l m z }
+  name-to h = record {
+    some = h 0 (omega arith) .some refl;
+    noSlash = λ t l. h t l .noSlash;
+    padded = λ s t l m z. down t s l m z;
+  }
     where
       down : (t s : ℕ) → s < t → t < 14 → f s ≡ 0 → f t ≡ 0
       down zero s l m z = absurd (omega arith)
@@ -74,10 +75,11 @@ module _ (f : ℕ → ℕ) where
           h (suc t) m .after (omega arith) (rw e p)
 
   pub name-from : GoodName f → (t : ℕ) → t < 14 → LetterOk f t
-  name-from n t l = record
-    { noSlash = n .noSlash t l
-    ; some = λ e. rw e (n .some)
-    ; after = λ k z. n .padded (t - 1) t (omega arith) l z }
+  name-from n t l = record {
+    noSlash = n .noSlash t l;
+    some = λ e. rw e (n .some);
+    after = λ k z. n .padded (t - 1) t (omega arith) l z;
+  }
 
 -- ---- entries
 
@@ -117,10 +119,11 @@ module _ (d : Bytes) (v : Disk) (i k a : ℕ) (p : Spot d v i k a) (r : Bool) wh
   good-at x = alike (λ h. moved (nameAt d a) (nameOf v i k) (p .name) (name-to (nameAt d a) h)) (λ h. name-from (nameAt d a) (moved (nameOf v i k) (nameAt d a) (λ t m. sym (p .name t m)) h)) x
     where
       moved : (f h : Bytes) → SameName f h → GoodName f → GoodName h
-      moved f h e n = record
-        { some = λ z. n .some (e 0 (omega arith) ∙ z)
-        ; noSlash = λ t m z. n .noSlash t m (e t m ∙ z)
-        ; padded = λ s t l m z. sym (e t m) ∙ n .padded s t l m (e s (omega arith) ∙ z) }
+      moved f h e n = record {
+        some = λ z. n .some (e 0 (omega arith) ∙ z);
+        noSlash = λ t m z. n .noSlash t m (e t m ∙ z);
+        padded = λ s t l m z. sym (e t m) ∙ n .padded s t l m (e s (omega arith) ∙ z);
+      }
 
 module _ (v : Disk) (i k x : ℕ) (a : Is x (numOf v i k) 65536) where
   pub entry-free : x ≡ 0 → Decides true (EntryOk (tree v) i k)
@@ -148,8 +151,8 @@ module _ (v : Disk) (i k x : ℕ) (a : Is x (numOf v i k) 65536) where
 
         pub entry-name : (r : Bool) → (d ≡ 0 → ⊥) → Decides r (GoodName (nameOf v i k)) → Decides r (EntryOk (tree v) i k)
         entry-name r e x₂ = alike
-          (λ h. record { live = λ _ _. omega (arith, same-kind); named = λ _ _. h; fresh = λ _. f })
-          (λ o. o .named l used) x₂
+            (λ h. record { live = λ _ _. omega (arith, same-kind); named = λ _ _. h; fresh = λ _. f })
+            (λ o. o .named l used) x₂
 
 -- ---- directories
 
@@ -168,27 +171,34 @@ module _ (v : Disk) (i n x : ℕ) (ends : Ends v i n) (a : Is x (numOf v i 0) 65
         flip f g h t l = sym (h t l)
 
         to : ((k : ℕ) → k < n → EntryOk (tree v) i k) → Dir (tree v) i
-        to f = record
-          { self = sym (a .eq) ∙ s
-          ; selfName = p
-          ; upName = q
-          ; live = λ k l h. f k (inside k h) .live l h
-          ; named = λ k l h. f k (inside k h) .named l h
-          ; once = λ k l hk hl e. elim (decLt l k)
-              [ yes m ↦ absurd (f k (inside k hk) .fresh hk l m hl e)
-              | no m ↦ elim (decLt k l) [ yes m₂ ↦ absurd (f l (inside l hl) .fresh hl k m₂ hk (flip (nameOf v i k) (nameOf v i l) e)) | no m₂ ↦ omega arith ] ] }
+        to f = record {
+          self = sym (a .eq) ∙ s;
+          selfName = p;
+          upName = q;
+          live = λ k l h. f k (inside k h) .live l h;
+          named = λ k l h. f k (inside k h) .named l h;
+          once = λ k l hk hl e. elim (decLt l k) [
+            | yes m ↦ absurd (f k (inside k hk) .fresh hk l m hl e)
+            | no m ↦ elim (decLt k l) [ yes m₂ ↦ absurd (f l (inside l hl) .fresh hl k m₂ hk (flip (nameOf v i k) (nameOf v i l) e)) | no m₂ ↦ omega arith ]
+          ];
+        }
 
         from : Dir (tree v) i → (k : ℕ) → k < n → EntryOk (tree v) i k
-        from e k l = record
-          { live = e .live k; named = e .named k
-          ; fresh = λ h j m hj same. let z = e .once k j h hj same in omega arith }
+        from e k l = record {
+          live = e .live k;
+          named = e .named k;
+          fresh = λ h j m hj same. let z = e .once k j h hj same in omega arith;
+        }
 
 module _ (g : Super) (ok : GoodNumbers g) (d : Bytes) where
   pub s5-to : ((i : ℕ) → i < g .ninodes → disk g d .ino i .kind ≡ 1 → Dir (tree (disk g d)) i) → S5 (tree (disk g d))
   unfolding noNode
-  s5-to f = record { each = λ i h. elim (decLt i (g .ninodes))
-    [ yes l ↦ f i l h
-    | no l ↦ let z : inoOf g d i .kind ≡ 0 = ap (λ (r : Node). r .kind) (ino-high g d i (omega (arith, ok .inodes-least)) (omega arith)) in absurd (omega arith) ] }
+  s5-to f = record {
+    each = λ i h. elim (decLt i (g .ninodes)) [
+      | yes l ↦ f i l h
+      | no l ↦ let z : inoOf g d i .kind ≡ 0 = ap (λ (r : Node). r .kind) (ino-high g d i (omega (arith, ok .inodes-least)) (omega arith)) in absurd (omega arith)
+    ];
+  }
 
 -- the directory i, of s bytes
 pub listing : (g : Super) (v : Disk) (i d s : ℕ) → S3 g v → Is d (v .ino i .kind) 65536 → d ≡ 1 → Is s (v .ino i .size) 4294967296 → Listing v i (s / 16)

@@ -42,9 +42,9 @@ up-more t n i = follow-add (up t) n 1 i
 
 pub climb-end : (N : ℕ) (t : Tree) (i n x : ℕ) (r : Bool) → Stays N t i → n ≡ N → x ≡ follow (up t) n i → Decides r (x ≡ 1) → Decides r (Reaches t i)
 climb-end N t i n x r s e h d = alike
-  (λ y. record { depth = n; there = sym h ∙ y })
-  (λ y. h ∙ ap (λ (a : ℕ). follow (up t) a i) e ∙ bounded (up t) (s .root) i N (s .below) (y .depth) (y .there))
-  d
+    (λ y. record { depth = n; there = sym h ∙ y })
+    (λ y. h ∙ ap (λ (a : ℕ). follow (up t) a i) e ∙ bounded (up t) (s .root) i N (s .below) (y .depth) (y .there))
+    d
 
 -- ---- sums: one that is not 0 has a part that is not 0, and two parts that are not 0 make at least 2
 
@@ -164,10 +164,11 @@ module _ (g : Super) (ok : GoodNumbers g) (d : Bytes) (s3 : S3 g (disk g d)) whe
       stays i h = record { root = root; below = λ k. kind-in (follow (up (tree (disk g d))) k i) (all-dirs k i h) }
 
       pub s6-to : m 1 ≡ 0 → ((i : ℕ) → i < g .ninodes → disk g d .ino i .kind ≡ 1 → Reaches (tree (disk g d)) i) → S6 g (tree (disk g d))
-      s6-to none r = record
-        { rootUp = root
-        ; rootOnce = sym (counts 1 (omega arith) (omega arith)) ∙ none
-        ; below = λ i h n. record { one = one i h n; parent = placed i h n .0; listed = placed i h n .1; reaches = r i (kind-in i h) h } }
+      s6-to none r = record {
+        rootUp = root;
+        rootOnce = sym (counts 1 (omega arith) (omega arith)) ∙ none;
+        below = λ i h n. record { one = one i h n; parent = placed i h n .0; listed = placed i h n .1; reaches = r i (kind-in i h) h };
+      }
 
   pub s6-reaches : S6 g (tree (disk g d)) → (i : ℕ) → i < g .ninodes → disk g d .ino i .kind ≡ 1 → Reaches (tree (disk g d)) i
   unfolding follow
@@ -210,8 +211,8 @@ module _ (v : Disk) (j k x d : ℕ) (a : Is x (numOf v j k) 65536) (b : Is d (v 
 pub row-all : (g : Super) (d : Bytes) (j n : ℕ) (r : Bool) → Ends (disk g d) j n → Decides r ((k : ℕ) → 2 ≤ k → k < n → HomeOk (tree (disk g d)) j k) → Decides r ((k : ℕ) → 2 ≤ k → HomeOk (tree (disk g d)) j k)
 unfolding noNode
 row-all g d j n r e x = alike
-  (λ f k l. elim (decLt k n) [ yes m ↦ f k l m | no m ↦ λ h _. absurd (none k (e .gone k (omega arith)) h) ])
-  (λ f k l _. f k l) x
+    (λ f k l. elim (decLt k n) [ yes m ↦ f k l m | no m ↦ λ h _. absurd (none k (e .gone k (omega arith)) h) ])
+    (λ f k l _. f k l) x
   where
     none : (k : ℕ) → numOf (disk g d) j k ≡ 0 → inoOf g d (numOf (disk g d) j k) .kind ≡ 1 → ⊥
     none k z h = let y : inoOf g d (numOf (disk g d) j k) .kind ≡ 0 = ap (λ (q : Node). q .kind) (ino-low g d (numOf (disk g d) j k) (omega arith)) in omega arith

@@ -33,9 +33,10 @@ module _ (f : ℕ → ℕ) where
         ∙ sym (follow-add a (q * p + r) i) ∙ again a p e q r
 
     pub bounded : (N : ℕ) → ((k : ℕ) → follow f k i < N) → (m : ℕ) → follow f m i ≡ 1 → follow f N i ≡ 1
-    bounded N h m e = elim (ℕ-discrete (follow f N i) 1)
-      [ yes z ↦ z
-      | no z ↦ absurd (let y : suc N ≤ N = pigeon N (suc N) (λ k. follow f k i) (λ k _. h k) (inj z) in omega arith) ]
+    bounded N h m e = elim (ℕ-discrete (follow f N i) 1) [
+      | yes z ↦ z
+      | no z ↦ absurd (let y : suc N ≤ N = pigeon N (suc N) (λ k. follow f k i) (λ k _. h k) (inj z) in omega arith)
+    ]
       where
         twice : follow f N i ≢ 1 → (a b : ℕ) → a < b → b < suc N → follow f a i ≡ follow f b i → ⊥
         twice z a b l lb y =
@@ -50,6 +51,7 @@ module _ (f : ℕ → ℕ) where
             z (later (a + r) N (omega arith) one)
 
         inj : follow f N i ≢ 1 → (a b : ℕ) → a < suc N → b < suc N → follow f a i ≡ follow f b i → a ≡ b
-        inj z a b la lb y = elim (decLt a b)
-          [ yes s ↦ absurd (twice z a b s lb y)
-          | no s ↦ elim (decLt b a) [ yes s₂ ↦ absurd (twice z b a s₂ la (sym y)) | no s₂ ↦ omega arith ] ]
+        inj z a b la lb y = elim (decLt a b) [
+          | yes s ↦ absurd (twice z a b s lb y)
+          | no s ↦ elim (decLt b a) [ yes s₂ ↦ absurd (twice z b a s₂ la (sym y)) | no s₂ ↦ omega arith ]
+        ]

@@ -56,11 +56,13 @@ module _ (g : Super) (d : Bytes) (i : ℕ) where
   -- by cases: there is an inode i, or not
   cases : (o n x : ℕ) → (0 < i → i < g .ninodes → get (λ k. d (inodeAddr g i + k)) o n ≡ x) → (i < 1 → 0 ≡ x) → (1 ≤ i → g .ninodes ≤ i → 0 ≡ x) → field g d i o n ≡ x
   unfolding field
-  cases o n x h k l = elim (decLt 0 i)
-    [ yes p ↦ elim (decLt i (g .ninodes))
-        [ yes q ↦ rw (lt-ltb 0 i p, lt-ltb i (g .ninodes) q) (get-at o n ∙ h p q)
-        | no q ↦ rw (lt-ltb 0 i p, le-ltb i (g .ninodes) (omega arith)) (l (omega arith) (omega arith)) ]
-    | no p ↦ rw (le-ltb 0 i (omega arith)) (k (omega arith)) ]
+  cases o n x h k l = elim (decLt 0 i) [
+    | yes p ↦ elim (decLt i (g .ninodes)) [
+      | yes q ↦ rw (lt-ltb 0 i p, lt-ltb i (g .ninodes) q) (get-at o n ∙ h p q)
+      | no q ↦ rw (lt-ltb 0 i p, le-ltb i (g .ninodes) (omega arith)) (l (omega arith) (omega arith))
+    ]
+    | no p ↦ rw (le-ltb 0 i (omega arith)) (k (omega arith))
+  ]
 
   ino-here : 0 < i → i < g .ninodes → inoOf g d i ≡ nodeIn (λ k. d (inodeAddr g i + k))
   unfolding inoOf
@@ -77,9 +79,9 @@ module _ (g : Super) (d : Bytes) (i : ℕ) where
   module _ (f : Node → ℕ) (o n : ℕ) (here : (b : Bytes) → get b o n ≡ f (nodeIn b)) (none : 0 ≡ f noNode) where
     field-is : field g d i o n ≡ f (inoOf g d i)
     field-is = cases o n (f (inoOf g d i))
-      (λ p q. here (λ k. d (inodeAddr g i + k)) ∙ ap f (sym (ino-here p q)))
-      (λ p. none ∙ ap f (sym (ino-low p)))
-      (λ p q. none ∙ ap f (sym (ino-high p q)))
+        (λ p q. here (λ k. d (inodeAddr g i + k)) ∙ ap f (sym (ino-here p q)))
+        (λ p. none ∙ ap f (sym (ino-low p)))
+        (λ p q. none ∙ ap f (sym (ino-high p q)))
 
   pub field-kind : field g d i 0 2 ≡ inoOf g d i .kind
   unfolding nodeIn noNode
@@ -121,7 +123,7 @@ module _ (g : Super) (d : Bytes) where
   unfolding entry
   entry-high zero k r p h e = absurd (omega arith)
   entry-high (suc b) k r p h e = is-to _ e
-    (sym (le-cong 4 (λ j. memOf g d (suc b * 1024 + 4 * k + j)) (λ j. d (suc b * 1024 + 4 * k + j)) (λ j m. mem-high (suc b * 1024 + 4 * k + j) (omega arith))))
+      (sym (le-cong 4 (λ j. memOf g d (suc b * 1024 + 4 * k + j)) (λ j. d (suc b * 1024 + 4 * k + j)) (λ j m. mem-high (suc b * 1024 + 4 * k + j) (omega arith))))
 
   pub slot-direct : (i p r : ℕ) → p < 13 → Is r (inoOf g d i .addr p) 4294967296 → Is r (slot (memOf g d) (inoOf g d i) p) 4294967296
   unfolding slot
@@ -148,9 +150,10 @@ module _ (v : Disk) (i k : ℕ) where
   entry-other x h = rw (ne-eqb (v .ino i .kind) 1 h)
 
   pub entry-past : (x : ℕ) → v .ino i .size ≤ 16 * k → 0 ≡ cond (isEntry v i k) x 0
-  entry-past x h = elim (native.Mathlib.Decide.ℕ-discrete (v .ino i .kind) 1)
-    [ yes e ↦ rw (eq-eqb (v .ino i .kind) 1 e, le-ltb (16 * k) (v .ino i .size) h)
-    | no e ↦ entry-other x e ]
+  entry-past x h = elim (native.Mathlib.Decide.ℕ-discrete (v .ino i .kind) 1) [
+    | yes e ↦ rw (eq-eqb (v .ino i .kind) 1 e, le-ltb (16 * k) (v .ino i .size) h)
+    | no e ↦ entry-other x e
+  ]
 
   pub entry-here : (x : ℕ) → v .ino i .kind ≡ 1 → 16 * k < v .ino i .size → x ≡ cond (isEntry v i k) x 0
   entry-here x e h = rw (eq-eqb (v .ino i .kind) 1 e, lt-ltb (16 * k) (v .ino i .size) h)

@@ -17,14 +17,22 @@ pub fn num2(s: &[u8], a: usize) -> usize
     requires { ⌜ a < 8796093022208 ⌝ }
     ensures { λ r. ⌜ Is r (numAt (bytes (now (s .entry))) a 2) 65536 ⌝ }
 {
-    if a + 2 <= s.len() { base::read_u16(s, a) as usize } else { base::get_u16(s, a) as usize }
+    if a + 2 <= s.len() {
+        base::read_u16(s, a) as usize
+    } else {
+        base::get_u16(s, a) as usize
+    }
 }
 
 pub fn num4(s: &[u8], a: usize) -> usize
     requires { ⌜ a < 8796093022208 ⌝ }
     ensures { λ r. ⌜ Is r (numAt (bytes (now (s .entry))) a 4) 4294967296 ⌝ }
 {
-    if a + 4 <= s.len() { base::read_u32(s, a) as usize } else { base::get_u32(s, a) as usize }
+    if a + 4 <= s.len() {
+        base::read_u32(s, a) as usize
+    } else {
+        base::get_u32(s, a) as usize
+    }
 }
 
 // The first block of the data area.

@@ -9,7 +9,6 @@ use Rattle.base.specs.First.{first, all, tabulate}
 use Rattle.base.specs.Bytes.{Bytes, bytes, put}
 use Rattle.base.specs.Number.{le, digit}
 use Rattle.base.specs.Bit.{bitAt}
-use Rattle.base.specs.declared.Refusal.the-variants.{NotDirectory}
 use Rattle.superblock.specs.declared.Super.{Super}
 use Rattle.superblock.specs.Entry.{padded}
 use Rattle.superblock.specs.Node.{Node, encoded, addrBytes, nodeIn, noNode}
@@ -21,8 +20,7 @@ use Rattle.path.specs.Names.{sameName}
 use Rattle.path.specs.Parts.{other, ends, startOf, endOf, partOf}
 use Rattle.dir.specs.Lookup.{hasName, entryOf, lookup}
 use Rattle.walk.specs.Step.{stepOf}
-use Rattle.walk.specs.Walks.{walkIn, walkOf}
-use Rattle.walk.specs.declared.Walk.the-variants.{Reached, Refused}
+use Rattle.walk.specs.Walks.{walkIn, walkOf, given}
 
 -- case 1's numbers
 unfoldable pub numbers : Super
@@ -52,15 +50,15 @@ card =
     (35 * 1024 + 32) 16 (bytes (2 ∷ 0 ∷ 97 ∷ []))) (35 * 1024 + 48) 16 (bytes (3 ∷ 0 ∷ letters []))
 
 -- 11: "/abcdefghijklmnop" finds the file "abcdefghijklmn"
-pub case-11 : walkOf numbers (disk numbers card) 1 (47 ∷ letters (111 ∷ 112 ∷ [])) ≡ Reached 3
+pub case-11 : given (walkOf numbers (disk numbers card) 1 (47 ∷ letters (111 ∷ 112 ∷ []))) ≡ 0 ∷ 3 ∷ []
 unfolding walkOf walkIn stepOf lookup entryOf hasName sameName partOf endOf startOf ends other fitOf shapeOf takenOf slotFit numOf treeName slot entry inoOf bitOf memOf encoded addrBytes nodeIn noNode padded bitAt le digit put first all tabulate numbers root file letters inodes bitmap card
 case-11 = refl
 
 -- 12: "/a/" finds file a; "/a/b" gives 6
-pub case-12 : walkOf numbers (disk numbers card) 1 (47 ∷ 97 ∷ 47 ∷ []) ≡ Reached 2
+pub case-12 : given (walkOf numbers (disk numbers card) 1 (47 ∷ 97 ∷ 47 ∷ [])) ≡ 0 ∷ 2 ∷ []
 unfolding walkOf walkIn stepOf lookup entryOf hasName sameName partOf endOf startOf ends other fitOf shapeOf takenOf slotFit numOf treeName slot entry inoOf bitOf memOf encoded addrBytes nodeIn noNode padded bitAt le digit put first all tabulate numbers root file letters inodes bitmap card
 case-12 = refl
 
-pub case-12-below : walkOf numbers (disk numbers card) 1 (47 ∷ 97 ∷ 47 ∷ 98 ∷ []) ≡ Refused NotDirectory
+pub case-12-below : given (walkOf numbers (disk numbers card) 1 (47 ∷ 97 ∷ 47 ∷ 98 ∷ [])) ≡ 6 ∷ []
 unfolding walkOf walkIn stepOf lookup entryOf hasName sameName partOf endOf startOf ends other fitOf shapeOf takenOf slotFit numOf treeName slot entry inoOf bitOf memOf encoded addrBytes nodeIn noNode padded bitAt le digit put first all tabulate numbers root file letters inodes bitmap card
 case-12-below = refl
