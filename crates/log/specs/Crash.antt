@@ -6,7 +6,7 @@ use mathlib.Core.Bool.{Bool, true, false, cond}
 use mathlib.Core.List.{List, [], _∷_}
 use Prim.Native.Nat.{ℕ, zero, suc, _+_, _-_, _*_, _/_, _%_, _^_, _≤_, _<_, min}
 use native.Mathlib.Omega.{arith}
-use native.Mathlib.Decide.{ℕ-discrete}
+use native.Mathlib.Decide.{ℕ-discrete, decLt}
 use native.Mathlib.Nat.{add-zero, add-suc}
 use native.Mathlib.Numerals.{add-one}
 use borrow.Author.Tests.{lt-ltb, le-ltb, le-leb, lt-leb, eq-eqb, ne-eqb}
@@ -18,9 +18,9 @@ use Rattle.superblock.specs.declared.Super.{Super}
 use Rattle.superblock.specs.Geometry.{Laid}
 use Rattle.log.specs.Words.{putWords, words-in, words-first, words-out, block-in, block-off}
 use Rattle.log.specs.Journal.{Tx, held, header, logBlock, words, homeWrite, emptied, installWrite, commitWrite, commitDue, recoverDue}
-use Rattle.log.specs.Journal.{commit, committed, logged, recover, recovered, recoveries, replaced, GoodLog, Outside, Settled, afterCrash}
+use Rattle.log.specs.Journal.{commit, committed, logged, recover, recovered, recoveries, replaced, GoodLog, Outside, Settled, afterCrash, Ready}
 use Rattle.log.specs.PulledCard.{Survives, Saved, PulledCard}
-use Rattle.log.specs.Installing.{Same, homes-forget, homes-below, homes-same, homes-again, install-part, install-all, install-same, replaced-in, replaced-off}
+use Rattle.log.specs.Installing.{Same, homes-forget, homes-below, homes-same, homes-again, install-home, install-part, install-all, install-same, replaced-in, replaced-off}
 use Rattle.log.specs.Headers.{commit-due-none, commit-due-some, recover-due-none, recover-due-some, recover-due-most, words-suc, empty-count, emptied-off, log-count, log-same, good-same, good-none}
 
 -- d has a good header, and installing what it says makes e of it, outside the log area
@@ -111,6 +111,30 @@ module _ (t : Tx) (k : ℕ) (d : Bytes) where
   commit-install j h =
       let e : k - (t .count + 1) ≡ j = omega arith in
       rw (le-ltb k (t .count) (omega arith), ne-eqb k (t .count) (λ q. omega arith), e)
+
+-- a write of a block by the number of the block and of its home, as code finds them: into the log before the header, home after it
+pub commit-block : (n : ℕ) (h b : ℕ → ℕ) (m : Bytes) (k a i : ℕ) (d e : Bytes) → (k ≡ n → ⊥) → k ≤ 2 * n
+    → (k < n → a ≡ logBlock k) × (n < k → a ≡ h (k - (n + 1))) → (k < n → i ≡ k) × (n < k → i ≡ k - (n + 1))
+    → e ≡ putBlock d a (block m (b i)) → e ≡ commitWrite (held n h b m) k d
+unfolding held homeWrite
+commit-block n h b m k a i d e u l p q r = r ∙ go (lt-or-le k n)
+  where
+    go : (k < n) ⊎ (n ≤ k) → putBlock d a (block m (b i)) ≡ commitWrite (held n h b m) k d
+    go (inl w) = rw (p .0 w, q .0 w) (sym (commit-log (held n h b m) k d w))
+    go (inr w) =
+        rw (p .1 (omega arith), q .1 (omega arith))
+        (sym (install-home (held n h b m) (k - (n + 1)) d (omega arith)) ∙ sym (commit-install (held n h b m) k d (k - (n + 1)) (omega arith)))
+
+-- and where they lie
+pub source-below : (n k i : ℕ) → (k ≡ n → ⊥) → k ≤ 2 * n → (k < n → i ≡ k) × (n < k → i ≡ k - (n + 1)) → i < n
+source-below n k i u l q = elim (decLt k n) [ yes w ↦ omega (arith, q .0 w) | no w ↦ omega (arith, q .1 (omega arith)) ]
+
+pub target-fits : (n : ℕ) (h b : ℕ → ℕ) (c m k a : ℕ) → Ready n h b c m → (k ≡ n → ⊥) → k ≤ 2 * n
+    → (k < n → a ≡ logBlock k) × (n < k → a ≡ h (k - (n + 1))) → a * 1024 + 1024 ≤ m
+target-fits n h b c m k a r u l p = elim (decLt k n) [
+  | yes w ↦ omega (arith, p .0 w, r .log)
+  | no w ↦ omega (arith, p .1 (omega arith), r .home (k - (n + 1)) (omega arith))
+]
 
 -- the log writes change nothing but the log blocks, which hold the contents then
 log-off : (is : ℕ) (t : Tx) (k : ℕ) (d : Bytes) (x : ℕ) → k ≤ t .count → 3 + t .count ≤ is → (x < 3072) ⊎ (is * 1024 ≤ x)

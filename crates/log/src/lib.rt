@@ -3,7 +3,7 @@
 // The log starts at block 2 on every good card: block 2 is the header (a length, then the homes), logged block i is block 3 + i. Block number
 // k's part of the lent image is passed mutably to the block copier. What a cut leaves is a theorem: specs/PulledCard.antt.
 ghost use mathlib.Core.Path.{_≡_};
-ghost use Prim.Native.Nat.{ℕ, _+_, _*_, _≤_, _<_, min};
+ghost use Prim.Native.Nat.{ℕ, _+_, _-_, _*_, _≤_, _<_, min};
 ghost use lib.ListN.{length, getD};
 ghost use Rattle.base.specs.Bytes.{bytes, block, putBlock};
 ghost use Rattle.base.specs.Number.{get as numAt};
@@ -58,6 +58,25 @@ pub fn put_header(image: &mut [u8], homes: &[u32; 30], n: usize)
     base::put_u32(image, 2048, base::small(n));
 }
 
+// Which of the n blocks write number k of a commit writes, and to which block of the card: into the log before the header, home after it.
+fn source(n: usize, k: usize) -> usize
+    requires { ⌜ n ≤ 29 ⌝ }
+    ensures { λ r. ⌜ (k < n → r ≡ k) × (n < k → r ≡ k - (n + 1)) ⌝ }
+{
+    if n < k { k - (n + 1) } else { k }
+}
+
+fn target(homes: &[u32; 30], n: usize, k: usize) -> usize
+    requires { ⌜ (n ≤ 29) × (k ≤ 2 * n) ⌝ }
+    ensures { λ r. ⌜ (k < n → r ≡ logBlock k) × (n < k → r ≡ bytes (now (homes .entry)) (k - (n + 1))) ⌝ }
+{
+    if n < k {
+        base::place(homes[k - (n + 1)])
+    } else {
+        3 + k
+    }
+}
+
 // Write number k of a commit.
 pub fn commit_write(
     image: &mut [u8],
@@ -71,13 +90,12 @@ pub fn commit_write(
     requires { ⌜ (0 < n) × (k < 2 * n + 2) ⌝ }
     ensures { λ r. ⌜ bytes (now (image .exit)) ≡ commitWrite (held n (bytes (now (homes .entry))) (bytes (now (bufs .entry))) (bytes (now (cache .entry)))) k (bytes (now (image .entry))) ⌝ }
 {
-    if k < n {
-        put_buffer(image, 3 + k, cache, bufs[k]);
-    } else if k == n {
+    if k == n {
         put_header(image, homes, n);
     } else if k <= 2 * n {
-        let j = k - (n + 1);
-        put_buffer(image, base::place(homes[j]), cache, bufs[j]);
+        let b = target(homes, n, k);
+        let i = source(n, k);
+        put_buffer(image, b, cache, bufs[i]);
     } else {
         base::put_u32(image, 2048, 0);
     }

@@ -1,20 +1,16 @@
+-- `commit` meets its contract: after k turns the image is a run of k writes. Assumes nothing.
 use mathlib.Core.Path.{_≡_, _∙_, sym, ap, refl}
-use Prim.Native.Nat.{ℕ, _≤_, _<_, _-_, _+_, _*_, min}
+use Prim.Native.Nat.{_≤_, _<_, _-_, min}
 use native.Mathlib.Omega.{arith}
 use denote.Ref.{now}
 use lib.ListN.{length}
-use Rattle.base.specs.Bytes.{Bytes, bytes}
+use Rattle.base.specs.Bytes.{bytes}
 use Rattle.base.specs.Run.{run, run-more, run-none}
 use Rattle.log.specs.Journal.{held, commitWrite, commit, commitDue}
 use Rattle.log.specs.Headers.{commit-due-under, ready-as}
 use borrow.Author.Needs.{needs}
 use Rattle.log.proofs.commit.Statement.{statement}
 use Rattle.log.proofs.commit.Tie as tie
-use Rattle.log.proofs.commit.Reads as reads
-use Rattle.log.proofs.commit.Lts as lts
-use Rattle.base.proofs.smaller.Reads as smaller-reads
-use Rattle.log.proofs.commit_due.Reads as commit-due-reads
-use Rattle.log.proofs.commit_write.Reads as commit-write-reads
 
 abbrev Inv-loop : tie.InvT-loop
 Inv-loop image₀ cache homes bufs n writes w k₀ image k = (k ≤ w) × (length image ≡ length image₀) × (bytes image ≡ run (commitWrite (held n (bytes homes) (bytes bufs) (bytes cache))) k (bytes image₀))
@@ -22,33 +18,26 @@ Inv-loop image₀ cache homes bufs n writes w k₀ image k = (k ≤ w) × (lengt
 abbrev μ-loop : tie.MeasureT-loop
 μ-loop image₀ cache homes bufs n writes w k₀ image k = w - k
 
--- src/lib.rt:106:35
 commit-due-requires : tie.Need-commit-due-requires Inv-loop μ-loop
 commit-due-requires c κs = search needs
 
--- src/lib.rt:106:9
 smaller-requires : tie.Need-smaller-requires Inv-loop μ-loop
 smaller-requires c κs = search needs
 
--- src/lib.rt:108:5
 loop-holds : tie.Need-loop-holds Inv-loop μ-loop
 loop-holds c = (omega arith, refl, sym (run-none _ _))
 
--- src/lib.rt:109:9
 commit-write-requires : tie.Need-commit-write-requires Inv-loop μ-loop
 commit-write-requires c κs =
     let d : c .before .before .loop .k < commitDue (c .before .before .before .before .before .before .before .args .n) = omega (arith, c .before .before .before .smaller .ensures, c .before .before .before .before .commit-due .ensures) in
     (ready-as (c .before .before .loop .inv .1) (c .before .before .before .before .before .before .before .pre), commit-due-under _ _ d)
 
--- src/lib.rt:110:9
 add-k : tie.Need-add-k Inv-loop μ-loop
 add-k c = search needs
 
--- src/lib.rt:108:5
 loop-less : tie.Need-loop-less Inv-loop μ-loop
 loop-less c = search needs
 
--- src/lib.rt:108:5
 loop-again : tie.Need-loop-again Inv-loop μ-loop
 loop-again c =
     let a = c .before .before .before .before .before .before .before .before .before .before .args in (
@@ -57,11 +46,9 @@ loop-again c =
       run-more (commitWrite (held (a .n) (bytes (now (a .homes))) (bytes (now (a .bufs))) (bytes (now (a .cache))))) (c .before .before .before .before .before .loop .k) (bytes (now (a .image))) (c .before .before .commit-write .ensures) (c .before .before .before .before .before .loop .inv .2),
     )
 
--- src/lib.rt:95:1
 same-length : tie.Need-same-length Inv-loop μ-loop
 same-length c = search needs
 
--- src/lib.rt:95:1
 returns : tie.Need-returns Inv-loop μ-loop
 unfolding commit held
 returns c =

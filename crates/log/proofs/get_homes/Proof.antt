@@ -1,7 +1,8 @@
+-- `get_homes` meets its contract: the first i homes are those of the header. Assumes nothing.
 use mathlib.Core.Path.{_≡_, refl}
 use Prim.Native.Nat.{ℕ, _≤_, _<_, _-_, _+_, _*_}
 use native.Mathlib.Omega.{arith}
-use lib.ListN.{length, getD, set, length-set}
+use lib.ListN.{length, getD, length-set}
 use denote.Ref.{now}
 use Rattle.base.specs.Bytes.{bytes}
 use Rattle.base.specs.Number.{get}
@@ -10,9 +11,6 @@ use Rattle.log.specs.Journal.{header}
 use borrow.Author.Needs.{needs}
 use Rattle.log.proofs.get_homes.Statement.{statement}
 use Rattle.log.proofs.get_homes.Tie as tie
-use Rattle.log.proofs.get_homes.Reads as reads
-use Rattle.log.proofs.get_homes.Lts as lts
-use Rattle.base.proofs.get_u32.Reads as get-u32-reads
 
 abbrev Inv-loop : tie.InvT-loop
 Inv-loop image n homes₀ i₀ homes i = (i ≤ n) × (length homes ≡ 30) × ((k : ℕ) → k < i → getD homes k 0 ≡ get (bytes image) (header + 4 * (k + 1)) 4)
@@ -20,51 +18,40 @@ Inv-loop image n homes₀ i₀ homes i = (i ≤ n) × (length homes ≡ 30) × (
 abbrev μ-loop : tie.MeasureT-loop
 μ-loop image n homes₀ i₀ homes i = n - i
 
--- src/lib.rt:134:5
 loop-holds : tie.Need-loop-holds Inv-loop μ-loop
 loop-holds c = (omega arith, refl, λ k h. absurd (omega arith))
 
--- src/lib.rt:135:53
 add-get-u32 : tie.Need-add-get-u32 Inv-loop μ-loop
 add-get-u32 c = search needs
 
--- src/lib.rt:135:48
 mul-get-u32 : tie.Need-mul-get-u32 Inv-loop μ-loop
 mul-get-u32 c = search needs
 
--- src/lib.rt:135:41
 add-get-u32-2 : tie.Need-add-get-u32-2 Inv-loop μ-loop
 add-get-u32-2 c = search needs
 
--- src/lib.rt:135:20
 get-u32-requires : tie.Need-get-u32-requires Inv-loop μ-loop
 get-u32-requires c κs = search needs
 
--- src/lib.rt:135:9
 mul-homes : tie.Need-mul-homes Inv-loop μ-loop
 mul-homes c = search needs
 
--- src/lib.rt:135:9
 array-write-homes : tie.Need-array-write-homes Inv-loop μ-loop
 array-write-homes c = search needs
 
--- src/lib.rt:136:9
 add-i : tie.Need-add-i Inv-loop μ-loop
 add-i c = search needs
 
--- src/lib.rt:134:5
 loop-less : tie.Need-loop-less Inv-loop μ-loop
 loop-less c = search needs
 
--- src/lib.rt:134:5
 loop-again : tie.Need-loop-again Inv-loop μ-loop
 loop-again c = (
-      omega arith,
-      simp length-set (omega arith),
-      filled-more (λ k. get (bytes (now (c .before .before .before .before .args .image))) (header + 4 * (k + 1)) 4) (c .before .before .loop .homes) (c .before .before .loop .i) _ (omega arith) (c .get-u32 .ensures) (c .before .before .loop .inv .2),
-    )
+  omega arith,
+  simp length-set (omega arith),
+  filled-more (λ k. get (bytes (now (c .before .before .before .before .args .image))) (header + 4 * (k + 1)) 4) (c .before .before .loop .homes) (c .before .before .loop .i) _ (omega arith) (c .get-u32 .ensures) (c .before .before .loop .inv .2),
+)
 
--- src/lib.rt:128:1
 returns : tie.Need-returns Inv-loop μ-loop
 returns c = λ i h. c .before .loop .inv .2 i (omega arith)
 

@@ -1,5 +1,6 @@
-use mathlib.Core.Path.{_≡_, _∙_, sym, ap, refl}
-use Prim.Native.Nat.{ℕ, _≤_, _<_, _-_, _+_, _*_}
+-- `good_homes` meets its contract: the first i homes are good, and the first that is not refutes. Assumes nothing.
+use mathlib.Core.Path.{_≡_}
+use Prim.Native.Nat.{_≤_, _-_}
 use native.Mathlib.Omega.{arith}
 use denote.Ref.{now}
 use Rattle.base.specs.Bytes.{bytes}
@@ -9,9 +10,6 @@ use Rattle.log.specs.Headers.{homes-start, homes-more, homes-low-not, ho
 use borrow.Author.Needs.{needs}
 use Rattle.log.proofs.good_homes.Statement.{statement}
 use Rattle.log.proofs.good_homes.Tie as tie
-use Rattle.log.proofs.good_homes.Reads as reads
-use Rattle.log.proofs.good_homes.Lts as lts
-use Rattle.base.proofs.find.Reads as find-reads
 
 abbrev Inv-loop : tie.InvT-loop
 Inv-loop homes n low high i₀ i = (i ≤ n) × GoodHomes (bytes homes) i low high
@@ -19,47 +17,36 @@ Inv-loop homes n low high i₀ i = (i ≤ n) × GoodHomes (bytes homes) i low hi
 abbrev μ-loop : tie.MeasureT-loop
 μ-loop homes n low high i₀ i = n - i
 
--- src/lib.rt:185:5
 loop-holds : tie.Need-loop-holds Inv-loop μ-loop
 loop-holds c = (omega arith, homes-start _ _ _ 0)
 
--- src/lib.rt:186:17
 mul-h : tie.Need-mul-h Inv-loop μ-loop
 mul-h c = search needs
 
--- src/lib.rt:186:17
 element-copy-out-h : tie.Need-element-copy-out-h Inv-loop μ-loop
 element-copy-out-h c = search needs
 
--- src/lib.rt:188:13
 returns : tie.Need-returns Inv-loop μ-loop
 returns c = not-so (homes-low-not (bytes (now (c .before .before .before .before .args .homes))) _ _ (c .before .before .before .loop .i) _ (omega arith) (c .if1 .taken))
 
--- src/lib.rt:191:13
 returns-2 : tie.Need-returns-2 Inv-loop μ-loop
 returns-2 c = not-so (homes-high-not (bytes (now (c .before .before .before .before .before .args .homes))) _ _ (c .before .before .before .before .loop .i) _ (omega arith) (c .if2 .taken))
 
--- src/lib.rt:193:12
 find-requires : tie.Need-find-requires Inv-loop μ-loop
 find-requires c κs = search needs
 
--- src/lib.rt:194:13
 returns-3 : tie.Need-returns-3 Inv-loop μ-loop
 returns-3 c = not-so (homes-twice-not (bytes (now (c .before .before .before .before .before .before .before .args .homes))) _ _ (c .before .before .before .before .before .before .loop .i) _ (omega arith) (omega (arith, c .before .find .ensures, c .if3 .taken)))
 
--- src/lib.rt:196:9
 add-i : tie.Need-add-i Inv-loop μ-loop
 add-i c = search needs
 
--- src/lib.rt:185:5
 loop-less : tie.Need-loop-less Inv-loop μ-loop
 loop-less c = search needs
 
--- src/lib.rt:185:5
 loop-again : tie.Need-loop-again Inv-loop μ-loop
 loop-again c = (omega arith, homes-more (bytes (now (c .before .before .before .before .before .before .before .args .homes))) _ _ (c .before .before .before .before .before .before .loop .i) (c .before .before .before .before .before .before .loop .inv .1) (c .before .before .before .if1 .left) (c .before .before .if2 .left) (omega (arith, c .before .find .ensures, c .if3 .left)))
 
--- src/lib.rt:180:1
 returns-4 : tie.Need-returns-4 Inv-loop μ-loop
 returns-4 c = so (let e : c .before .loop .i ≡ c .before .before .args .n = omega arith in rw e at (c .before .loop .inv .1))
 

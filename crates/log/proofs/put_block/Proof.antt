@@ -1,4 +1,5 @@
-use mathlib.Core.Path.{_≡_, _∙_, ap}
+-- `put_block` meets its contract: the lent part comes back with the source in it, `bytes-mid`. Assumes nothing.
+use mathlib.Core.Path.{_≡_}
 use Prim.Native.Nat.{_+_, _-_, _*_}
 use native.Mathlib.Omega.{arith}
 use denote.Ref.{now}
@@ -6,39 +7,28 @@ use Rattle.base.specs.Bytes.{bytes-mid}
 use borrow.Author.Needs.{needs}
 use Rattle.log.proofs.put_block.Statement.{statement}
 use Rattle.log.proofs.put_block.Tie as tie
-use Rattle.log.proofs.put_block.Reads as reads
-use Rattle.log.proofs.put_block.Lts as lts
-use Rattle.log.proofs.copy_block.Reads as copy-block-reads
 
--- src/lib.rt:33:13
 mul-a : tie.Need-mul-a
 mul-a c = search needs
 
--- src/lib.rt:34:13
 add-e : tie.Need-add-e
 add-e c = search needs
 
--- src/lib.rt:35:16
 sub-copy-block : tie.Need-sub-copy-block
 sub-copy-block c = search needs
 
--- src/lib.rt:35:16
 part-copy-block-start : tie.Need-part-copy-block-start
 part-copy-block-start c = search needs
 
--- src/lib.rt:35:16
 part-copy-block-end : tie.Need-part-copy-block-end
 part-copy-block-end c = search needs
 
--- src/lib.rt:35:5
 copy-block-requires : tie.Need-copy-block-requires
 copy-block-requires c κs = search needs
 
--- src/lib.rt:29:1
 same-length : tie.Need-same-length
 same-length c = search needs
 
--- src/lib.rt:29:1
 returns : tie.Need-returns
 returns c =
     let a = c .before .before .before .before .before .before .args in

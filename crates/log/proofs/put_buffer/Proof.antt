@@ -1,5 +1,6 @@
-use mathlib.Core.Path.{_≡_, _∙_}
-use Prim.Native.Nat.{ℕ, _*_, _+_, _-_}
+-- `put_buffer` meets its contract: the part of the cache is the buffer's block. Assumes nothing.
+use mathlib.Core.Path.{_∙_}
+use Prim.Native.Nat.{_*_, _+_, _-_}
 use native.Mathlib.Omega.{arith}
 use denote.Ref.{now}
 use Rattle.base.specs.Bytes.{bytes, block}
@@ -7,39 +8,28 @@ use Rattle.log.specs.Words.{block-same, part-read}
 use borrow.Author.Needs.{needs}
 use Rattle.log.proofs.put_buffer.Statement.{statement}
 use Rattle.log.proofs.put_buffer.Tie as tie
-use Rattle.log.proofs.put_buffer.Reads as reads
-use Rattle.log.proofs.put_buffer.Lts as lts
-use Rattle.log.proofs.put_block.Reads as put-block-reads
 
--- src/lib.rt:43:13
 mul-a : tie.Need-mul-a
 mul-a c = search needs
 
--- src/lib.rt:44:13
 add-e : tie.Need-add-e
 add-e c = search needs
 
--- src/lib.rt:45:25
 sub-put-block : tie.Need-sub-put-block
 sub-put-block c = search needs
 
--- src/lib.rt:45:25
 part-put-block-start : tie.Need-part-put-block-start
 part-put-block-start c = search needs
 
--- src/lib.rt:45:25
 part-put-block-end : tie.Need-part-put-block-end
 part-put-block-end c = search needs
 
--- src/lib.rt:45:5
 put-block-requires : tie.Need-put-block-requires
 put-block-requires c κs = search needs
 
--- src/lib.rt:39:1
 same-length : tie.Need-same-length
 same-length c = search needs
 
--- src/lib.rt:39:1
 returns : tie.Need-returns
 returns c =
     let a = c .before .before .before .before .before .before .before .args in

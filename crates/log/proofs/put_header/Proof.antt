@@ -1,8 +1,9 @@
+-- `put_header` meets its contract: the homes are put one after the other, then the length before them. Assumes nothing.
 use mathlib.Core.Path.{_≡_, _∙_, sym, ap, refl}
-use Prim.Native.Nat.{ℕ, _≤_, _<_, _-_, _+_, _*_}
+use Prim.Native.Nat.{ℕ, _≤_, _-_, _+_, _*_}
 use native.Mathlib.Omega.{arith}
 use denote.Ref.{now}
-use lib.ListN.{length, getD}
+use lib.ListN.{length}
 use Rattle.base.specs.Bytes.{Bytes, bytes, put}
 use Rattle.base.specs.Number.{digit}
 use Rattle.log.specs.Words.{putWords, words-more, words-cons, words-none}
@@ -11,10 +12,6 @@ use Rattle.log.specs.Headers.{words-suc}
 use borrow.Author.Needs.{needs}
 use Rattle.log.proofs.put_header.Statement.{statement}
 use Rattle.log.proofs.put_header.Tie as tie
-use Rattle.log.proofs.put_header.Reads as reads
-use Rattle.log.proofs.put_header.Lts as lts
-use Rattle.base.proofs.put_u32.Reads as put-u32-reads
-use Rattle.base.proofs.small.Reads as small-reads
 
 -- a turn, and the end, over plain memories: what the call ensures, then the invariant
 turn : {e' e : Bytes} (d : Bytes) (a i : ℕ) (w : ℕ → ℕ) → e' ≡ put e (a + 4 * i) 4 (digit (w i)) → e ≡ putWords d a i w → e' ≡ putWords d a (i + 1) w
@@ -32,55 +29,42 @@ Inv-loop image₀ homes n i₀ image i = (i ≤ n) × (length image ≡ length i
 abbrev μ-loop : tie.MeasureT-loop
 μ-loop image₀ homes n i₀ image i = n - i
 
--- src/lib.rt:54:5
 loop-holds : tie.Need-loop-holds Inv-loop μ-loop
 loop-holds c = (omega arith, refl, sym (words-none _ _ _))
 
--- src/lib.rt:55:37
 mul-put-u32 : tie.Need-mul-put-u32 Inv-loop μ-loop
 mul-put-u32 c = search needs
 
--- src/lib.rt:55:30
 add-put-u32 : tie.Need-add-put-u32 Inv-loop μ-loop
 add-put-u32 c = search needs
 
--- src/lib.rt:55:44
 mul-put-u32-2 : tie.Need-mul-put-u32-2 Inv-loop μ-loop
 mul-put-u32-2 c = search needs
 
--- src/lib.rt:55:44
 element-copy-out-put-u32 : tie.Need-element-copy-out-put-u32 Inv-loop μ-loop
 element-copy-out-put-u32 c = search needs
 
--- src/lib.rt:55:9
 put-u32-requires : tie.Need-put-u32-requires Inv-loop μ-loop
 put-u32-requires c κs = search needs
 
--- src/lib.rt:56:9
 add-i : tie.Need-add-i Inv-loop μ-loop
 add-i c = search needs
 
--- src/lib.rt:54:5
 loop-less : tie.Need-loop-less Inv-loop μ-loop
 loop-less c = search needs
 
--- src/lib.rt:54:5
 loop-again : tie.Need-loop-again Inv-loop μ-loop
 loop-again c = (omega arith, omega (arith, c .before .before .put-u32 .kept .0), turn (bytes (now (c .before .before .before .before .before .before .before .before .args .image))) 2052 (c .before .before .before .before .before .before .loop .i) (bytes (now (c .before .before .before .before .before .before .before .before .args .homes))) (c .before .before .put-u32 .ensures) (c .before .before .before .before .before .before .loop .inv .2))
 
--- src/lib.rt:58:32
 small-requires : tie.Need-small-requires Inv-loop μ-loop
 small-requires c κs = search needs
 
--- src/lib.rt:58:5
 put-u32-requires-2 : tie.Need-put-u32-requires-2 Inv-loop μ-loop
 put-u32-requires-2 c κs = search needs
 
--- src/lib.rt:49:1
 same-length : tie.Need-same-length Inv-loop μ-loop
 same-length c = search needs
 
--- src/lib.rt:49:1
 returns : tie.Need-returns Inv-loop μ-loop
 returns c = end (bytes (now (c .before .before .before .before .before .before .before .before .args .image))) (c .before .before .before .before .before .before .loop .i) (c .before .before .before .before .before .before .before .before .args .n) (c .before .before .before .small .result) (bytes (now (c .before .before .before .before .before .before .before .before .args .homes))) (omega arith) (c .before .before .before .small .ensures) (c .before .before .put-u322 .ensures) (c .before .before .before .before .before .before .loop .inv .2)
 

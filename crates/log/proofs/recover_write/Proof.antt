@@ -1,58 +1,43 @@
-use mathlib.Core.Path.{_≡_, _∙_, sym, ap}
-use Prim.Native.Nat.{ℕ, _+_, _-_, _*_}
+-- `recover_write` meets its contract: each branch is a case of `installWrite`. Assumes nothing.
+use mathlib.Core.Path.{_∙_, sym, ap}
+use Prim.Native.Nat.{_-_}
 use native.Mathlib.Omega.{arith}
 use denote.Ref.{now}
-use Rattle.base.specs.Bytes.{Bytes, bytes, block, putBlock}
+use Rattle.base.specs.Bytes.{bytes, putBlock}
 use Rattle.log.specs.Words.{block-same}
 use Rattle.log.specs.Journal.{held, homeWrite, emptied, logBlock}
 use Rattle.log.specs.Installing.{install-home, install-last}
 use borrow.Author.Needs.{needs}
 use Rattle.log.proofs.recover_write.Statement.{statement}
 use Rattle.log.proofs.recover_write.Tie as tie
-use Rattle.log.proofs.recover_write.Reads as reads
-use Rattle.log.proofs.recover_write.Lts as lts
-use Rattle.base.proofs.place.Reads as place-reads
-use Rattle.base.proofs.put_u32.Reads as put-u32-reads
-use Rattle.log.proofs.get_block.Reads as get-block-reads
-use Rattle.log.proofs.put_block.Reads as put-block-reads
 
--- src/lib.rt:148:38
 add-get-block : tie.Need-add-get-block
 add-get-block c = search needs
 
--- src/lib.rt:148:21
 get-block-requires : tie.Need-get-block-requires
 get-block-requires c κs = search needs
 
--- src/lib.rt:149:38
 mul-place : tie.Need-mul-place
 mul-place c = search needs
 
--- src/lib.rt:149:38
 element-copy-out-place : tie.Need-element-copy-out-place
 element-copy-out-place c = search needs
 
--- src/lib.rt:149:26
 place-requires : tie.Need-place-requires
 place-requires c κs = search needs
 
--- src/lib.rt:149:49
 slice-aggregate-put-block : tie.Need-slice-aggregate-put-block
 slice-aggregate-put-block c = search needs
 
--- src/lib.rt:149:9
 put-block-requires : tie.Need-put-block-requires
 put-block-requires c κs = omega (arith, c .before .before .before .before .before .before .before .before .pre .0 .home (c .before .before .before .before .before .before .before .before .args .k) (omega arith), c .before .place .ensures, c .before .before .before .before .get-block .ensures .0)
 
--- src/lib.rt:151:9
 put-u32-requires : tie.Need-put-u32-requires
 put-u32-requires c κs = search needs
 
--- src/lib.rt:142:1
 same-length : tie.Need-same-length
 same-length c = search needs
 
--- src/lib.rt:142:1
 returns : tie.Need-returns
 unfolding held homeWrite
 returns c =
@@ -63,11 +48,9 @@ returns c =
     ∙ block-same d (t .home (a .k)) _ (t .content (a .k)) (c .before .before .before .before .before .before .before .get-block .ensures .1)
     ∙ sym (install-home t (a .k) d (omega arith))
 
--- src/lib.rt:142:1
 same-length-2 : tie.Need-same-length-2
 same-length-2 c = search needs
 
--- src/lib.rt:142:1
 returns-2 : tie.Need-returns-2
 unfolding held emptied
 returns-2 c =
