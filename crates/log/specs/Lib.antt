@@ -5,3 +5,4 @@ pub mod PulledCard
 pub mod Installing
 pub mod Headers
 pub mod Crash
+pub mod Kept
