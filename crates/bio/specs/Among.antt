@@ -39,6 +39,16 @@ module _ (l : List ℕ) (n b : ℕ) where
       go true e = absurd (let w = among-where e in h (w .0) (w .1) (w .2))
       go false e = refl
 
+-- as a search's answer k says it
+module _ (l : List ℕ) (n b k : ℕ) (e : k ≡ first (λ i. eqb (getD l i 0) b) n) where
+  pub among-found : k < n → among l n b ≡ true
+  unfolding among
+  among-found h = lt-ltb (first (λ i. eqb (getD l i 0) b) n) n (omega arith)
+
+  pub among-missed : n ≤ k → among l n b ≡ false
+  unfolding among
+  among-missed h = le-ltb (first (λ i. eqb (getD l i 0) b) n) n (omega arith)
+
 -- those of the first n that are below a limit are distinct
 pub record Distinct (l : List ℕ) (n limit : ℕ) : Type 0 where
   pub same : (i j : ℕ) → i < n → j < n → getD l i 0 < limit → getD l i 0 ≡ getD l j 0 → i ≡ j

@@ -1,6 +1,7 @@
+-- The search for a buffer that holds a block: none of those passed does.
 use borrow.Author.Count.{below-more}
 use mathlib.Core.Path.{_≡_, sym}
-use mathlib.Core.Bool.{true, false}
+use mathlib.Core.Bool.{false}
 use mathlib.Core.Logic.{⊎-elim}
 use native.Mathlib.Omega.{arith}
 use Prim.Native.Nat.{ℕ, _-_, _<_, _≤_}
@@ -9,8 +10,6 @@ use Rattle.bio.specs.Seen.{pinned, pinned-yes, pinned-other, pinned-clea
 use borrow.Author.Needs.{needs}
 use Rattle.bio.proofs.buffer_of.Statement.{statement}
 use Rattle.bio.proofs.buffer_of.Tie as tie
-use Rattle.bio.proofs.buffer_of.Reads as reads
-use Rattle.bio.proofs.buffer_of.Lts as lts
 
 abbrev Inv-loop : tie.InvT-loop
 Inv-loop blocks counts b j₀ j = (j ≤ 30) × ((k : ℕ) → k < j → pinned blocks counts b k ≡ false)
@@ -18,48 +17,38 @@ Inv-loop blocks counts b j₀ j = (j ≤ 30) × ((k : ℕ) → k < j → pinned 
 abbrev μ-loop : tie.MeasureT-loop
 μ-loop blocks counts b j₀ j = 30 - j
 
--- src/lib.rt:21:5
 loop-holds : tie.Need-loop-holds Inv-loop μ-loop
 loop-holds c = (search needs, λ k h. absurd (omega arith))
 
--- src/lib.rt:22:12
 mul-if1 : tie.Need-mul-if1 Inv-loop μ-loop
 mul-if1 c = search needs
 
--- src/lib.rt:22:12
 element-copy-out-if1 : tie.Need-element-copy-out-if1 Inv-loop μ-loop
 element-copy-out-if1 c = search needs
 
--- src/lib.rt:23:20
 mul-if2 : tie.Need-mul-if2 Inv-loop μ-loop
 mul-if2 c = search needs
 
--- src/lib.rt:23:20
 element-copy-out-if2 : tie.Need-element-copy-out-if2 Inv-loop μ-loop
 element-copy-out-if2 c = search needs
 
--- src/lib.rt:24:17
 returns : tie.Need-returns Inv-loop μ-loop
 unfolding bufferOf
 returns c =
     let l = c .before .before .before .before .before .loop in
     sym (first-at (pinned _ _ _) 30 (l .j) (c .before .before .before .before .loop-test .taken) (l .inv .1) (pinned-yes _ _ _ (l .j) (c .before .before .if1 .taken) (c .if2 .taken)))
 
--- src/lib.rt:27:9
 add-j : tie.Need-add-j Inv-loop μ-loop
 add-j c = search needs
 
--- src/lib.rt:21:5
 loop-less : tie.Need-loop-less Inv-loop μ-loop
 loop-less c = search needs
 
--- src/lib.rt:21:5
 loop-again : tie.Need-loop-again Inv-loop μ-loop
 loop-again c =
     let l = c .before .before .before .loop in
     (search needs, below-more _ _ (l .inv .1) (⊎-elim (λ w. pinned-clean _ _ _ (l .j) (omega (arith, w .2 .left))) (λ w. pinned-other _ _ _ (l .j) (w .left)) (c .if1 .came)))
 
--- src/lib.rt:17:1
 returns-2 : tie.Need-returns-2 Inv-loop μ-loop
 unfolding bufferOf
 returns-2 c = sym (first-none (pinned _ _ _) 30 (λ k h. c .before .loop .inv .1 k (omega arith)))

@@ -1,0 +1,2 @@
+-- What the calls keep. Assumes nothing.
+use mathlib.Core.Path.{_≡_}
