@@ -23,6 +23,12 @@ number (Buffer j) = 0
 number Done = 0
 number (Refused r) = refusals.number r
 
+-- the buffer that an answer names, 30 for none
+abbrev pub index : Answer → ℕ
+index (Buffer j) = j
+index Done = 30
+index (Refused r) = 30
+
 -- the table as it was, with a refusal
 abbrev pub refused : Table → Refusal → After
 refused t n = record { table = t; answer = Refused n }

@@ -28,7 +28,7 @@ putBit g d b t = put d (bitAddr g b) 1 (λ _. withBit (d (bitAddr g b)) (b % 8) 
 
 -- what each part of the disk reads
 module _ (g : Super) (d e : Bytes) where
-  inoOf-cong : (i : ℕ) → (0 < i → i < g .ninodes → (k : ℕ) → k < 64 → d (inodeAddr g i + k) ≡ e (inodeAddr g i + k)) → inoOf g d i ≡ inoOf g e i
+  pub inoOf-cong : (i : ℕ) → (0 < i → i < g .ninodes → (k : ℕ) → k < 64 → d (inodeAddr g i + k) ≡ e (inodeAddr g i + k)) → inoOf g d i ≡ inoOf g e i
   unfolding inoOf
   inoOf-cong i h = elim (decLt 0 i) [
     | yes l ↦ elim (decLt i (g .ninodes)) [
@@ -38,11 +38,11 @@ module _ (g : Super) (d e : Bytes) where
     | no l ↦ rw (le-ltb 0 i (omega arith))
   ]
 
-  bitOf-cong : (b : ℕ) → (b < (bits g) → d (bitAddr g b) ≡ e (bitAddr g b)) → bitOf g d b ≡ bitOf g e b
+  pub bitOf-cong : (b : ℕ) → (b < (bits g) → d (bitAddr g b) ≡ e (bitAddr g b)) → bitOf g d b ≡ bitOf g e b
   unfolding bitOf
   bitOf-cong b h = if-cong b (bits g) (bitAt (d (bitAddr g b)) (b % 8)) (bitAt (e (bitAddr g b)) (b % 8)) (λ l. ap (λ (x : ℕ). bitAt x (b % 8)) (h l))
 
-  memOf-cong : (x : ℕ) → (dataStart g * 1024 ≤ x → d x ≡ e x) → memOf g d x ≡ memOf g e x
+  pub memOf-cong : (x : ℕ) → (dataStart g * 1024 ≤ x → d x ≡ e x) → memOf g d x ≡ memOf g e x
   unfolding memOf
   memOf-cong x h = elim (decLt x (dataStart g * 1024)) [
     | yes l ↦ rw (lt-ltb x (dataStart g * 1024) l)
