@@ -259,21 +259,32 @@ module _ (s : Super) (laid : Laid s) (sz : s .size ≤ 8191) (t : Tx) (g : GoodL
   unfolding replaced
   over x o = homes-forget t (t .count) _ d x (inl (header-off x o))
 
-  -- a finished commit: the log is empty, and outside it the homes are replaced
-  pub commit-done : logged d .count ≡ 0 → Settled s (committed t d) (replaced t d)
+  -- a finished commit: outside the log the homes are replaced, and the log is empty where it was
+  pub commit-holds : (x : ℕ) → Outside s x → committed t d x ≡ replaced t d x
   unfolding committed
-  commit-done z = go (ℕ-discrete (t .count) 0)
+  commit-holds x o = go (ℕ-discrete (t .count) 0)
     where
-      go : Dec (t .count ≡ 0) → Settled s (run (commitWrite t) (commitDue (t .count)) d) (replaced t d)
-      go (yes e) = rw (commit-due-none (t .count) e, run-none (commitWrite t) d, replaced-none e) (record { empty = z; holds = λ x o. refl })
+      go : Dec (t .count ≡ 0) → run (commitWrite t) (commitDue (t .count)) d x ≡ replaced t d x
+      go (yes e) = rw (commit-due-none (t .count) e, run-none (commitWrite t) d, replaced-none e) refl
       go (no e) =
           let d1 = run (commitWrite t) (t .count + 1) d in
           let q : 2 * t .count + 2 ≡ t .count + 1 + (t .count + 1) = omega arith in
           rw (commit-due-some (t .count) e, q, commit-split t (t .count + 1) d, install-all t d1)
-          (record {
-            empty = empty-count (replaced t d1);
-            holds = λ x o. emptied-off s (replaced t d1) x (omega (arith, fits)) o ∙ over x o;
-          })
+          (emptied-off s (replaced t d1) x (omega (arith, fits)) o ∙ over x o)
+
+  commit-empty : logged d .count ≡ 0 → logged (committed t d) .count ≡ 0
+  unfolding committed
+  commit-empty z = go (ℕ-discrete (t .count) 0)
+    where
+      go : Dec (t .count ≡ 0) → logged (run (commitWrite t) (commitDue (t .count)) d) .count ≡ 0
+      go (yes e) = rw (commit-due-none (t .count) e, run-none (commitWrite t) d) z
+      go (no e) =
+          let d1 = run (commitWrite t) (t .count + 1) d in
+          let q : 2 * t .count + 2 ≡ t .count + 1 + (t .count + 1) = omega arith in
+          rw (commit-due-some (t .count) e, q, commit-split t (t .count + 1) d, install-all t d1) (empty-count (replaced t d1))
+
+  pub commit-done : logged d .count ≡ 0 → Settled s (committed t d) (replaced t d)
+  commit-done z = record { empty = commit-empty z; holds = commit-holds }
 
   -- THE CRASH THEOREM, in one equation
   pub crash : logged d .count ≡ 0 → (k : ℕ) (ks : List ℕ) → Settled s (afterCrash t k ks d) (cond (leb k (t .count)) d (replaced t d))

@@ -6,3 +6,4 @@ pub mod Kept
 pub mod Afterwards
 pub mod PulledCalls
 pub mod Survive
+pub mod Promises

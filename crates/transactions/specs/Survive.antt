@@ -43,8 +43,8 @@ module _ (v : Volume) (image : List ℕ) (w : Whole v image) (cache : Bytes) whe
       go b i l false e =
           let z : (b * 1024 + i) / 1024 ≡ b = omega arith in
           let n : bufferOf (v .table .blocks) (v .table .counts) b ≡ 30 =
-              buffer-none (v .table .blocks) (v .table .counts) b
-              (λ j m q c. omega (arith, w .buffered .buffers .others j m (ap (among (v .homes) (v .recorded)) q ∙ e))) in
+          buffer-none (v .table .blocks) (v .table .counts) b
+          (λ j m q c. omega (arith, w .buffered .buffers .others j m (ap (among (v .homes) (v .recorded)) q ∙ e))) in
           replaced-off (recordedTx v cache) (bytes image) (b * 1024 + i) (λ k m q. among-no (v .homes) (v .recorded) b e k m (q ∙ z))
           ∙ sym (seen-out (v .table .blocks) (v .table .counts) cache (bytes image) b i l (omega arith))
 

