@@ -1,3 +1,4 @@
 -- The buffer table: which block is where, and what is seen through it.
 pub mod Among
 pub mod Seen
+pub mod Part
