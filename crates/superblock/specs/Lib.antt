@@ -3,5 +3,6 @@ pub mod Geometry
 pub mod Node
 pub mod Record
 pub mod Entry
+pub mod Blank
 pub mod Disk
 pub mod Stores

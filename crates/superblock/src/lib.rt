@@ -12,6 +12,7 @@ ghost use Rattle.superblock.specs.Geometry.{Laid, GoodNumbers, Good, sup
 ghost use Rattle.superblock.specs.Node.{node, encoded, addrBytes, inodeAt};
 ghost use Rattle.superblock.specs.Record.{sized, linked, addressed};
 ghost use Rattle.superblock.specs.Entry.{entryAt, entryBytes, padded as paddedName};
+ghost use Rattle.superblock.specs.Blank.{Blank};
 
 // The superblock's numbers. The log starts at block 2 on every good card, so that number is not kept.
 pub struct Super {
@@ -220,4 +221,11 @@ pub fn put_entry(dst: &mut [u8], a: usize, e: Entry)
 {
     base::put_u16(dst, a, e.inum);
     base::copy_part(dst, a + 2, &e.name, 0, 14);
+}
+
+// A block of zeros by value: what is written for each newly taken block.
+pub fn zero_block() -> [u8; 1024]
+    ensures { λ r. ⌜ Blank r ⌝ }
+{
+    [0; 1024]
 }
