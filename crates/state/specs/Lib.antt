@@ -1,0 +1,7 @@
+-- The state of a volume, and when it is whole.
+pub mod Whole
+pub mod Marks
+pub mod Slots
+pub mod Order
+pub mod Card
+pub mod Given
