@@ -4,3 +4,4 @@ pub mod Fetch
 pub mod Slots
 pub mod Fitness
 pub mod FitOf
+pub mod Content
