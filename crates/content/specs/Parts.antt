@@ -10,6 +10,7 @@ use Rattle.superblock.specs.declared.Inode.{Inode}
 use Rattle.superblock.specs.Node.{Node, node}
 use Rattle.superblock.specs.Disk.{disk}
 use Rattle.bio.specs.Seen.{seen}
+use Rattle.bio.specs.Part.{IsBlock}
 use Rattle.rules.specs.Fit.{Fit, slot, slotOf, blocks as blocksOf}
 use Rattle.inode.specs.Lent.{Lent, diskSeen}
 use Rattle.inode.specs.Content.{block-taken}
@@ -59,3 +60,8 @@ module _ (d : Bytes) (r : Node) where
   more offset p n m was mid is h q =
       q .filled ∙ ap (λ (x : Bytes). put x p m (λ k. contentAt d r (offset + p + k))) h
       ∙ put-more was 0 p p m (λ k. contentAt d r (offset + k)) (λ k. contentAt d r (offset + p + k)) (omega arith) (λ j l. ap (contentAt d r) (omega arith))
+
+-- the block that holds byte at is all there
+pub block-full : (blocks counts cache image : List ℕ) (f : Inode) (at b : ℕ) (t : List ℕ) → Readable blocks counts cache image f → at < f .size
+    → b ≡ slot (seen blocks counts (bytes cache) (bytes image)) (node f) (slotOf (at / 1024)) → IsBlock t blocks counts cache image b → length t ≡ 1024
+block-full blocks counts cache image f at b t r h e i = i .full (r .buffers) (omega (arith, r .inside (at / 1024) (omega arith)))
