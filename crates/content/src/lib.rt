@@ -47,7 +47,17 @@ pub fn read_content<'a, 'b>(
 {
     let mut d: usize = 0;
     while d < n {
-        let r = read_part(blocks, counts, image, cache, f, offset + d, buffer, d, n - d);
+        let r = read_part(
+            blocks,
+            counts,
+            image,
+            cache,
+            f,
+            offset + d,
+            buffer,
+            d,
+            n - d,
+        );
         d += r;
     }
 }
