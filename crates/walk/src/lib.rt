@@ -7,6 +7,7 @@ ghost use Prim.Native.Nat.{ℕ, _+_, _*_, _<_, _≤_};
 ghost use Rattle.inode.specs.Lent.{Lent, diskSeen};
 ghost use Rattle.walk.specs.Step.{stepOf, From};
 ghost use Rattle.walk.specs.Walks.{walkOf};
+ghost use Rattle.walk.specs.Parents.{lastIn, parentOf};
 use base::Refusal;
 use dir::Found;
 use path::Part;
@@ -23,6 +24,13 @@ pub enum Step {
 pub enum Walk {
     Reached(u32),
     Refused(Refusal),
+}
+
+// What a walk to the parent answers: the directory in which the last component is to be sought, with that component's place in the path, from
+// start up to end; or the first refusal.
+pub enum Parent {
+    Dir { inum: u32, start: usize, end: usize },
+    Not(Refusal),
 }
 
 // One step of a walk: from inode i, with the rest of the path.
@@ -88,6 +96,73 @@ pub fn follow<'a, 'b>(
             }
             Step::Stay => return Walk::Reached(i),
             Step::No(r) => return Walk::Refused(r),
+        }
+    }
+}
+
+// The end of a walk to the parent: inode i, in which the last component is to be sought.
+pub fn last_in<'a, 'b>(
+    blocks: &'b [u32; 30],
+    counts: &'b [u32; 30],
+    image: &'a [u8],
+    cache: &'a [u8],
+    s: Super,
+    i: u32,
+    start: usize,
+    end: usize,
+) -> Parent
+    requires { ⌜ Lent s (now image) (now cache) × From s i ⌝ }
+    ensures { λ r. ⌜ r ≡ lastIn s (diskSeen s (now (blocks .entry)) (now (counts .entry)) (now (cache .entry)) (now (image .entry))) i start end ⌝ }
+{
+    let f = inode::read_inode(blocks, counts, image, cache, s, i);
+    let ok = inode::fit(blocks, counts, image, cache, s, f);
+    if !ok {
+        return Parent::Not(Refusal::Unfit);
+    }
+    if f.kind != 1 {
+        return Parent::Not(Refusal::NotDirectory);
+    }
+    Parent::Dir {
+        inum: i,
+        start: start,
+        end: end,
+    }
+}
+
+// The parent of what a path names, from inode from on, and the last component.
+pub fn follow_parent<'a, 'b>(
+    blocks: &'b [u32; 30],
+    counts: &'b [u32; 30],
+    image: &'a [u8],
+    cache: &'a [u8],
+    s: Super,
+    from: u32,
+    path: &[u8],
+) -> Parent
+    requires { ⌜ Lent s (now image) (now cache) × From s from ⌝ }
+    ensures { λ r. ⌜ r ≡ parentOf s (diskSeen s (now (blocks .entry)) (now (counts .entry)) (now (cache .entry)) (now (image .entry))) from (now (path .entry)) ⌝ }
+{
+    let mut i = from;
+    let mut at: usize = 0;
+    loop {
+        match path::component(&path[at..]) {
+            Part::Name { start, end } => {
+                let b = at + start;
+                let e = at + end;
+                let last = path::ended(&path[e..]);
+                if last {
+                    return last_in(blocks, counts, image, cache, s, i, b, e);
+                }
+                match advance(blocks, counts, image, cache, s, i, &path[at..]) {
+                    Step::To { inum, used } => {
+                        i = inum;
+                        at += used;
+                    }
+                    Step::Stay => return Parent::Not(Refusal::NoName),
+                    Step::No(r) => return Parent::Not(r),
+                }
+            }
+            Part::End => return Parent::Not(Refusal::NoName),
         }
     }
 }

@@ -1,7 +1,8 @@
-use mathlib.Core.Path.{_≡_, refl, ap, sym, _∙_}
+-- entry_in: no entry passed has the name; a search by `first`.
+use mathlib.Core.Path.{_≡_, sym, _∙_}
 use native.Mathlib.Omega.{arith}
-use Prim.Native.Nat.{ℕ, _+_, _-_, _*_, _<_, _≤_}
-use mathlib.Core.Bool.{true, false}
+use Prim.Native.Nat.{ℕ, _-_, _*_, _<_, _≤_}
+use mathlib.Core.Bool.{false}
 use mathlib.Core.Logic.{⊎-elim}
 use denote.Ref.{now}
 use borrow.Author.Count.{below-more}
@@ -12,10 +13,6 @@ use Rattle.dir.specs.Entries.{entryIs, entry-free, entry-live}
 use borrow.Author.Needs.{needs}
 use Rattle.dir.proofs.entry_in.Statement.{statement}
 use Rattle.dir.proofs.entry_in.Tie as tie
-use Rattle.dir.proofs.entry_in.Reads as reads
-use Rattle.dir.proofs.entry_in.Lts as lts
-use Rattle.base.proofs.get_u16.Reads as get-u16-reads
-use Rattle.path.proofs.same_name.Reads as same-name-reads
 
 abbrev Inv-loop : tie.InvT-loop
 Inv-loop s count part k₀ k = (k ≤ count) × ((j : ℕ) → j < k → entryIs (bytes s) (nameOf part) (16 * j) ≡ false)
@@ -23,45 +20,35 @@ Inv-loop s count part k₀ k = (k ≤ count) × ((j : ℕ) → j < k → entryIs
 abbrev μ-loop : tie.MeasureT-loop
 μ-loop s count part k₀ k = count - k
 
--- src/lib.rt:26:5
 loop-holds : tie.Need-loop-holds Inv-loop μ-loop
 loop-holds c = (search needs, λ j h. absurd (omega arith))
 
--- src/lib.rt:27:29
 mul-get-u16 : tie.Need-mul-get-u16 Inv-loop μ-loop
 mul-get-u16 c = search needs
 
--- src/lib.rt:27:12
 get-u16-requires : tie.Need-get-u16-requires Inv-loop μ-loop
 get-u16-requires c κs = search needs
 
--- src/lib.rt:28:35
 mul-same-name : tie.Need-mul-same-name Inv-loop μ-loop
 mul-same-name c = search needs
 
--- src/lib.rt:28:35
 add-same-name : tie.Need-add-same-name Inv-loop μ-loop
 add-same-name c = search needs
 
--- src/lib.rt:28:16
 same-name-requires : tie.Need-same-name-requires Inv-loop μ-loop
 same-name-requires c κs = search needs
 
--- src/lib.rt:29:17
 returns : tie.Need-returns Inv-loop μ-loop
 returns c =
     sym (first-at (λ j. entryIs (bytes (now (c .before .before .before .before .before .before .before .before .args .s))) (nameOf (now (c .before .before .before .before .before .before .before .before .args .part))) (16 * j)) _ (c .before .before .before .before .before .loop .k) (c .before .before .before .before .loop-test .taken) (c .before .before .before .before .before .loop .inv .1)
     (entry-live _ _ _ (c .before .before .before .get-u16 .result) (c .before .before .before .get-u16 .ensures) (c .before .before .if1 .taken) (c .before .same-name .result) (c .before .same-name .ensures) ∙ c .if2 .taken))
 
--- src/lib.rt:32:9
 add-k : tie.Need-add-k Inv-loop μ-loop
 add-k c = search needs
 
--- src/lib.rt:26:5
 loop-less : tie.Need-loop-less Inv-loop μ-loop
 loop-less c = search needs
 
--- src/lib.rt:26:5
 loop-again : tie.Need-loop-again Inv-loop μ-loop
 loop-again c = (
   search needs,
@@ -72,7 +59,6 @@ loop-again c = (
       (c .if1 .came)),
 )
 
--- src/lib.rt:21:1
 returns-2 : tie.Need-returns-2 Inv-loop μ-loop
 returns-2 c =
     let e : c .before .loop .k ≡ c .before .before .before .before .args .count = omega arith in

@@ -1,6 +1,6 @@
-use mathlib.Core.Path.{_≡_, refl, ap, sym, _∙_}
+-- addresses_good: every address passed is good.
 use native.Mathlib.Omega.{arith}
-use Prim.Native.Nat.{ℕ, _+_, _-_, _*_, _<_, _≤_}
+use Prim.Native.Nat.{ℕ, _-_, _<_, _≤_}
 use denote.Ref.{now}
 use lib.ListN.{getD}
 use Rattle.base.specs.Bytes.{bytes}
@@ -11,9 +11,6 @@ use Rattle.inode.specs.Fitness.{each-no}
 use borrow.Author.Needs.{needs}
 use Rattle.inode.proofs.addresses_good.Statement.{statement}
 use Rattle.inode.proofs.addresses_good.Tie as tie
-use Rattle.inode.proofs.addresses_good.Reads as reads
-use Rattle.inode.proofs.addresses_good.Lts as lts
-use Rattle.inode.proofs.slot_good.Reads as slot-good-reads
 
 abbrev Inv-loop : tie.InvT-loop
 Inv-loop map s n f p₀ p = (p ≤ 13) × ((j : ℕ) → j < p → SlotGood s (bytes map) n j (getD (f .addrs) j 0))
@@ -21,39 +18,30 @@ Inv-loop map s n f p₀ p = (p ≤ 13) × ((j : ℕ) → j < p → SlotGood s (b
 abbrev μ-loop : tie.MeasureT-loop
 μ-loop map s n f p₀ p = 13 - p
 
--- src/lib.rt:101:5
 loop-holds : tie.Need-loop-holds Inv-loop μ-loop
 loop-holds c = (search needs, λ j h. absurd (omega arith))
 
--- src/lib.rt:102:17
 mul-b : tie.Need-mul-b Inv-loop μ-loop
 mul-b c = search needs
 
--- src/lib.rt:102:17
 element-copy-out-b : tie.Need-element-copy-out-b Inv-loop μ-loop
 element-copy-out-b c = search needs
 
--- src/lib.rt:103:13
 slot-good-requires : tie.Need-slot-good-requires Inv-loop μ-loop
 slot-good-requires c κs = search needs
 
--- src/lib.rt:105:13
 returns : tie.Need-returns Inv-loop μ-loop
 returns c = each-no (λ j. SlotGood (c .before .before .before .before .before .before .args .s) (bytes (now (c .before .before .before .before .before .before .args .map))) (c .before .before .before .before .before .before .args .n) j (getD (c .before .before .before .before .before .before .args .t3 .addrs) j 0)) 13 (c .before .before .before .before .loop .p) (c .before .before .before .loop-test .taken) (denied (c .before .slot-good .ensures) (c .if1 .taken))
 
--- src/lib.rt:107:9
 add-p : tie.Need-add-p Inv-loop μ-loop
 add-p c = search needs
 
--- src/lib.rt:101:5
 loop-less : tie.Need-loop-less Inv-loop μ-loop
 loop-less c = search needs
 
--- src/lib.rt:101:5
 loop-again : tie.Need-loop-again Inv-loop μ-loop
 loop-again c = (search needs, below-more _ _ (c .before .before .before .before .loop .inv .1) (passed (c .before .slot-good .ensures) (c .if1 .left)))
 
--- src/lib.rt:96:1
 returns-2 : tie.Need-returns-2 Inv-loop μ-loop
 returns-2 c = so (λ j h. c .before .loop .inv .1 j (omega arith))
 

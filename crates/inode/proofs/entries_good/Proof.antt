@@ -1,21 +1,16 @@
-use mathlib.Core.Path.{_≡_, refl, ap, sym, _∙_}
+-- entries_good: every entry passed is good.
 use native.Mathlib.Omega.{arith}
 use Prim.Native.Nat.{ℕ, _+_, _-_, _*_, _<_, _≤_}
 use denote.Ref.{now}
-use lib.ListN.{getD}
 use Rattle.base.specs.Bytes.{bytes}
 use borrow.Author.Count.{below-more}
 use Rattle.base.specs.Number.{get}
-use Rattle.base.specs.Decide.{Decides, so, denied, passed}
+use Rattle.base.specs.Decide.{so, denied, passed}
 use Rattle.inode.specs.Slots.{SlotGood}
 use Rattle.inode.specs.Fitness.{each-no}
 use borrow.Author.Needs.{needs}
 use Rattle.inode.proofs.entries_good.Statement.{statement}
 use Rattle.inode.proofs.entries_good.Tie as tie
-use Rattle.inode.proofs.entries_good.Reads as reads
-use Rattle.inode.proofs.entries_good.Lts as lts
-use Rattle.base.proofs.read_u32.Reads as read-u32-reads
-use Rattle.inode.proofs.slot_good.Reads as slot-good-reads
 
 abbrev Inv-loop : tie.InvT-loop
 Inv-loop map s table n k₀ k = (k ≤ 256) × ((j : ℕ) → j < k → SlotGood s (bytes map) n (12 + j) (get (bytes table) (4 * j) 4))
@@ -23,45 +18,35 @@ Inv-loop map s table n k₀ k = (k ≤ 256) × ((j : ℕ) → j < k → SlotGood
 abbrev μ-loop : tie.MeasureT-loop
 μ-loop map s table n k₀ k = 256 - k
 
--- src/lib.rt:118:5
 loop-holds : tie.Need-loop-holds Inv-loop μ-loop
 loop-holds c = (search needs, λ j h. absurd (omega arith))
 
--- src/lib.rt:119:39
 mul-read-u32 : tie.Need-mul-read-u32 Inv-loop μ-loop
 mul-read-u32 c = search needs
 
--- src/lib.rt:119:13
 read-u32-requires : tie.Need-read-u32-requires Inv-loop μ-loop
 read-u32-requires c κs = search needs
 
--- src/lib.rt:120:39
 add-slot-good : tie.Need-add-slot-good Inv-loop μ-loop
 add-slot-good c = search needs
 
--- src/lib.rt:120:13
 slot-good-requires : tie.Need-slot-good-requires Inv-loop μ-loop
 slot-good-requires c κs = search needs
 
--- src/lib.rt:122:13
 returns : tie.Need-returns Inv-loop μ-loop
 returns c =
     each-no (λ j. SlotGood (c .before .before .before .before .before .before .before .args .s) (bytes (now (c .before .before .before .before .before .before .before .args .map))) (c .before .before .before .before .before .before .before .args .n) (12 + j) (get (bytes (now (c .before .before .before .before .before .before .before .args .table))) (4 * j) 4))
     256 (c .before .before .before .before .loop .k) (c .before .before .before .loop-test .taken) (λ p. denied (c .before .slot-good .ensures) (c .if1 .taken) (rw (c .before .before .read-u32 .ensures) p))
 
--- src/lib.rt:124:9
 add-k : tie.Need-add-k Inv-loop μ-loop
 add-k c = search needs
 
--- src/lib.rt:118:5
 loop-less : tie.Need-loop-less Inv-loop μ-loop
 loop-less c = search needs
 
--- src/lib.rt:118:5
 loop-again : tie.Need-loop-again Inv-loop μ-loop
 loop-again c = (search needs, below-more _ _ (c .before .before .before .before .loop .inv .1) (rw (c .before .before .read-u32 .ensures) at (passed (c .before .slot-good .ensures) (c .if1 .left))))
 
--- src/lib.rt:113:1
 returns-2 : tie.Need-returns-2 Inv-loop μ-loop
 returns-2 c = so (λ j h. c .before .loop .inv .1 j (omega arith))
 

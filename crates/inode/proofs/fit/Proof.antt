@@ -1,8 +1,8 @@
-use mathlib.Core.Path.{_≡_, refl, ap, sym, _∙_}
+-- fit: a law of Fitness for each answer; the two blocks found are the bitmap and the indirect block of what is seen.
+use mathlib.Core.Path.{ap}
 use native.Mathlib.Omega.{arith}
-use Prim.Native.Nat.{ℕ, _+_, _-_, _*_, _<_, _≤_}
+use Prim.Native.Nat.{_-_}
 use denote.Ref.{now}
-use lib.ListN.{getD}
 use Rattle.base.specs.Bytes.{bytes}
 use Rattle.base.specs.Decide.{denied, passed}
 use Rattle.superblock.specs.Node.{node}
@@ -11,65 +11,46 @@ use Rattle.inode.specs.Fitness.{unfit-shape, unfit-address, fit-small, f
 use borrow.Author.Needs.{needs}
 use Rattle.inode.proofs.fit.Statement.{statement}
 use Rattle.inode.proofs.fit.Tie as tie
-use Rattle.inode.proofs.fit.Reads as reads
-use Rattle.inode.proofs.fit.Lts as lts
-use Rattle.base.proofs.place.Reads as place-reads
-use Rattle.bio.proofs.block_in.Reads as block-in-reads
-use Rattle.inode.proofs.addresses_good.Reads as addresses-good-reads
-use Rattle.inode.proofs.entries_good.Reads as entries-good-reads
-use Rattle.inode.proofs.shape_ok.Reads as shape-ok-reads
 
--- src/lib.rt:141:9
 shape-ok-requires : tie.Need-shape-ok-requires
 shape-ok-requires c κs = search needs
 
--- src/lib.rt:143:9
 returns : tie.Need-returns
 returns c = unfit-shape _ _ (node (c .before .before .before .before .args .t6)) (denied (c .before .shape-ok .ensures) (c .if1 .taken))
 
--- src/lib.rt:145:14
 place-requires : tie.Need-place-requires
 place-requires c κs = search needs
 
--- src/lib.rt:145:14
 add-n : tie.Need-add-n
 add-n c = search needs
 
--- src/lib.rt:146:9
 block-in-requires : tie.Need-block-in-requires
 block-in-requires c κs = search needs
 
--- src/lib.rt:147:9
 addresses-good-requires : tie.Need-addresses-good-requires
 addresses-good-requires c κs = search needs
 
--- src/lib.rt:149:9
 returns-2 : tie.Need-returns-2
 returns-2 c =
     unfit-address (c .before .before .before .before .before .before .before .before .args .s) (c .before .before .before .before .before .before .before .before .pre .numbers) _ (bytes (now (c .before .before .block-in .result))) (c .before .before .block-in .ensures .byte) (node (c .before .before .before .before .before .before .before .before .args .t6)) _
     (ap blocks (c .before .before .before .place .ensures)) (denied (c .before .addresses-good .ensures) (c .if2 .taken))
 
--- src/lib.rt:152:9
 returns-3 : tie.Need-returns-3
 returns-3 c =
     fit-small (c .before .before .before .before .before .before .before .before .before .args .s) (c .before .before .before .before .before .before .before .before .before .pre .numbers) _ (bytes (now (c .before .before .before .block-in .result))) (c .before .before .before .block-in .ensures .byte) (node (c .before .before .before .before .before .before .before .before .before .args .t6)) _
     (ap blocks (c .before .before .before .before .place .ensures)) (passed (c .before .before .before .before .before .before .shape-ok .ensures) (c .before .before .before .before .before .if1 .left)) (passed (c .before .before .addresses-good .ensures) (c .before .if2 .left)) (c .if3 .taken)
 
--- src/lib.rt:154:13
 element-copy-out-b : tie.Need-element-copy-out-b
 element-copy-out-b c = search needs
 
--- src/lib.rt:155:9
 block-in-requires-2 : tie.Need-block-in-requires-2
 block-in-requires-2 c κs = search needs
 
--- src/lib.rt:156:5
 entries-good-requires : tie.Need-entries-good-requires
 entries-good-requires c κs =
     let top = passed (c .before .before .before .before .addresses-good .ensures) (c .before .before .before .if2 .left) 12 (omega arith) .first (c .before .before .if3 .left) in
     (c .before .before .before .before .before .before .before .before .before .before .before .pre .numbers, c .block-in2 .ensures .full (c .before .before .before .before .before .before .before .before .before .before .before .pre .buffers) (omega (arith, top .high, c .before .before .before .before .before .before .before .before .before .before .before .pre .card)))
 
--- src/lib.rt:130:1
 returns-4 : tie.Need-returns-4
 returns-4 c =
     fit-large (c .before .before .before .before .before .before .before .before .before .before .before .before .args .s) (c .before .before .before .before .before .before .before .before .before .before .before .before .pre .numbers) _ (bytes (now (c .before .before .before .before .before .before .block-in .result))) (c .before .before .before .before .before .before .block-in .ensures .byte) (node (c .before .before .before .before .before .before .before .before .before .before .before .before .args .t6)) _

@@ -1,26 +1,18 @@
-use mathlib.Core.Path.{_≡_, refl, ap, sym, _∙_}
-use native.Mathlib.Omega.{arith}
-use Prim.Native.Nat.{ℕ, _+_, _-_, _*_, _<_, _≤_}
+-- slot_good: in use or not (Fitness.slot-used, slot-unused).
+use Prim.Native.Nat.{_-_}
 use denote.Ref.{now}
-use lib.ListN.{getD}
 use Rattle.base.specs.Bytes.{bytes}
 use Rattle.inode.specs.Fitness.{slot-used, slot-unused}
 use borrow.Author.Needs.{needs}
 use Rattle.inode.proofs.slot_good.Statement.{statement}
 use Rattle.inode.proofs.slot_good.Tie as tie
-use Rattle.inode.proofs.slot_good.Reads as reads
-use Rattle.inode.proofs.slot_good.Lts as lts
-use Rattle.inode.proofs.taken.Reads as taken-reads
 
--- src/lib.rt:90:9
 taken-requires : tie.Need-taken-requires
 taken-requires c κs = search needs
 
--- src/lib.rt:90:9
 returns : tie.Need-returns
 returns c = slot-used (c .before .before .before .args .s) (bytes (now (c .before .before .before .args .map))) (c .before .before .before .args .b) (c .before .before .before .args .n) (c .before .before .before .args .p) (c .before .if1 .taken) (c .taken .ensures)
 
--- src/lib.rt:85:1
 returns-2 : tie.Need-returns-2
 returns-2 c = slot-unused (c .before .before .args .s) (bytes (now (c .before .before .args .map))) (c .before .before .args .b) (c .before .before .args .n) (c .before .before .args .p) (c .if1 .left)
 

@@ -1,52 +1,37 @@
-use mathlib.Core.Path.{_≡_, refl, ap, sym, _∙_}
-use native.Mathlib.Omega.{arith}
-use Prim.Native.Nat.{ℕ, _+_, _-_, _*_, _<_, _≤_}
+-- taken: below, above, or by its bit (Fitness.taken-low, taken-high, taken-bit).
+use mathlib.Core.Path.{refl, ap, _∙_}
+use Prim.Native.Nat.{_-_}
 use denote.Ref.{now}
-use lib.ListN.{getD}
 use Rattle.base.specs.Bytes.{bytes}
 use Rattle.inode.specs.Fitness.{taken-low, taken-high, taken-bit}
 use borrow.Author.Needs.{needs}
 use Rattle.inode.proofs.taken.Statement.{statement}
 use Rattle.inode.proofs.taken.Tie as tie
-use Rattle.inode.proofs.taken.Reads as reads
-use Rattle.inode.proofs.taken.Lts as lts
-use Rattle.base.proofs.bit_of.Reads as bit-of-reads
-use Rattle.base.proofs.get.Reads as get-reads
-use Rattle.base.proofs.place.Reads as place-reads
 
--- src/lib.rt:73:16
 add-from : tie.Need-add-from
 add-from c = search needs
 
--- src/lib.rt:73:16
 add-from-2 : tie.Need-add-from-2
 add-from-2 c = search needs
 
--- src/lib.rt:75:9
 returns : tie.Need-returns
 returns c = taken-low (c .before .before .before .before .args .s) (bytes (now (c .before .before .before .before .args .map))) (c .before .before .before .before .args .b) _ refl (c .if1 .taken)
 
--- src/lib.rt:78:9
 returns-2 : tie.Need-returns-2
 returns-2 c = taken-high (c .before .before .before .before .before .before .args .s) (bytes (now (c .before .before .before .before .before .before .args .map))) (c .before .before .before .before .before .before .args .b) (c .if2 .taken)
 
--- src/lib.rt:80:28
 place-requires : tie.Need-place-requires
 place-requires c κs = search needs
 
--- src/lib.rt:80:9
 get-requires : tie.Need-get-requires
 get-requires c κs = search needs
 
--- src/lib.rt:81:21
 cast-bit-of : tie.Need-cast-bit-of
 cast-bit-of c = search needs
 
--- src/lib.rt:81:5
 bit-of-requires : tie.Need-bit-of-requires
 bit-of-requires c κs = search needs
 
--- src/lib.rt:69:1
 returns-3 : tie.Need-returns-3
 returns-3 c = taken-bit (c .before .before .before .before .before .before .before .before .before .args .s) (bytes (now (c .before .before .before .before .before .before .before .before .before .args .map))) (c .before .before .before .before .before .before .before .before .before .args .b) (c .before .get .result) (c .bit-of .result) (c .before .before .before .before .before .if1 .left) (c .before .before .before .if2 .left) (c .before .get .ensures ∙ ap (bytes (now (c .before .before .before .before .before .before .before .before .before .args .map))) (c .before .before .place .ensures)) (c .bit-of .ensures)
 

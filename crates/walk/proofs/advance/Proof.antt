@@ -1,6 +1,7 @@
-use mathlib.Core.Path.{_≡_, refl, ap, sym, _∙_}
+-- advance: a law of Step for each answer, from what the callees say.
+use mathlib.Core.Path.{refl, sym, _∙_}
 use native.Mathlib.Omega.{arith}
-use Prim.Native.Nat.{ℕ, _+_, _-_, _*_, _<_, _≤_}
+use Prim.Native.Nat.{_-_}
 use borrow.Author.Tests.{not-true, not-false}
 use denote.Ref.{now}
 use Rattle.base.specs.Decide.{passed}
@@ -10,93 +11,70 @@ use Rattle.walk.specs.Step.{step-unfit, step-end, step-no-directory, ste
 use borrow.Author.Needs.{needs}
 use Rattle.walk.proofs.advance.Statement.{statement}
 use Rattle.walk.proofs.advance.Tie as tie
-use Rattle.walk.proofs.advance.Reads as reads
-use Rattle.walk.proofs.advance.Lts as lts
-use Rattle.dir.proofs.dir_lookup.Reads as dir-lookup-reads
-use Rattle.inode.proofs.fit.Reads as fit-reads
-use Rattle.inode.proofs.read_inode.Reads as read-inode-reads
-use Rattle.path.proofs.component.Reads as component-reads
 
--- src/lib.rt:41:9
 read-inode-requires : tie.Need-read-inode-requires
 read-inode-requires c κs = (c .before .before .before .pre .0 .numbers, c .before .before .before .pre .1 .inside)
 
--- src/lib.rt:42:9
 fit-requires : tie.Need-fit-requires
 fit-requires c κs = c .before .before .before .before .pre .0
 
--- src/lib.rt:44:9
 returns : tie.Need-returns
 returns c =
     step-unfit (c .before .before .before .before .before .before .args .s) _ (c .before .before .before .before .before .before .args .i) (now (c .before .before .before .before .before .before .args .rest)) (c .before .before .read-inode .result)
     (fetched (c .before .before .before .before .before .before .args .s) _ (c .before .before .before .before .before .before .args .i) (c .before .before .read-inode .result) (c .before .before .before .before .before .before .pre .1 .some) (c .before .before .before .before .before .before .pre .1 .inside) (c .before .before .read-inode .ensures)) (c .before .fit .ensures)
     (not-true _ (c .if1 .taken))
 
--- src/lib.rt:46:11
 component-requires : tie.Need-component-requires
 component-requires c κs = search needs
 
--- src/lib.rt:47:22
 enum-known-start : tie.Need-enum-known-start
 enum-known-start c = search needs
 
--- src/lib.rt:49:17
 returns-2 : tie.Need-returns-2
 returns-2 c =
     step-no-directory (c .before .before .before .before .before .before .before .before .before .before .before .before .args .s) _ (c .before .before .before .before .before .before .before .before .before .before .before .before .args .i) (now (c .before .before .before .before .before .before .before .before .before .before .before .before .args .rest)) (c .before .before .before .before .before .before .before .before .read-inode .result)
     (fetched (c .before .before .before .before .before .before .before .before .before .before .before .before .args .s) _ (c .before .before .before .before .before .before .before .before .before .before .before .before .args .i) (c .before .before .before .before .before .before .before .before .read-inode .result) (c .before .before .before .before .before .before .before .before .before .before .before .before .pre .1 .some) (c .before .before .before .before .before .before .before .before .before .before .before .before .pre .1 .inside) (c .before .before .before .before .before .before .before .before .read-inode .ensures)) (c .before .before .before .before .before .before .before .fit .ensures)
     (not-false _ (c .before .before .before .before .before .before .if1 .left)) _ _ (sym (c .before .before .before .before .before .component .ensures) ∙ c .before .before .before .start .given .1) (c .if2 .taken)
 
--- src/lib.rt:51:68
 sub-dir-lookup : tie.Need-sub-dir-lookup
 sub-dir-lookup c = omega (arith, part-within _ _ _ (sym (c .before .before .before .before .before .component .ensures) ∙ c .before .before .before .start .given .1))
 
--- src/lib.rt:51:68
 part-dir-lookup-start : tie.Need-part-dir-lookup-start
 part-dir-lookup-start c = omega (arith, part-within _ _ _ (sym (c .before .before .before .before .before .component .ensures) ∙ c .before .before .before .start .given .1))
 
--- src/lib.rt:51:68
 part-dir-lookup-end : tie.Need-part-dir-lookup-end
 part-dir-lookup-end c = omega (arith, part-within _ _ _ (sym (c .before .before .before .before .before .component .ensures) ∙ c .before .before .before .start .given .1))
 
--- src/lib.rt:51:19
 dir-lookup-requires : tie.Need-dir-lookup-requires
 dir-lookup-requires c κs = passed (c .before .before .before .before .before .before .before .before .fit .ensures) (c .before .before .before .before .before .before .before .if1 .left) .shape .small
 
--- src/lib.rt:52:29
 enum-known-inum : tie.Need-enum-known-inum
 enum-known-inum c = search needs
 
--- src/lib.rt:54:25
 returns-3 : tie.Need-returns-3
 returns-3 c =
     step-to (c .before .before .before .before .before .before .before .before .before .before .before .before .before .before .before .before .before .before .before .args .s) _ (c .before .before .before .before .before .before .before .before .before .before .before .before .before .before .before .before .before .before .before .args .i) (now (c .before .before .before .before .before .before .before .before .before .before .before .before .before .before .before .before .before .before .before .args .rest)) (c .before .before .before .before .before .before .before .before .before .before .before .before .before .before .before .read-inode .result)
     (fetched (c .before .before .before .before .before .before .before .before .before .before .before .before .before .before .before .before .before .before .before .args .s) _ (c .before .before .before .before .before .before .before .before .before .before .before .before .before .before .before .before .before .before .before .args .i) (c .before .before .before .before .before .before .before .before .before .before .before .before .before .before .before .read-inode .result) (c .before .before .before .before .before .before .before .before .before .before .before .before .before .before .before .before .before .before .before .pre .1 .some) (c .before .before .before .before .before .before .before .before .before .before .before .before .before .before .before .before .before .before .before .pre .1 .inside) (c .before .before .before .before .before .before .before .before .before .before .before .before .before .before .before .read-inode .ensures)) (c .before .before .before .before .before .before .before .before .before .before .before .before .before .before .fit .ensures)
     (not-false _ (c .before .before .before .before .before .before .before .before .before .before .before .before .before .if1 .left)) _ _ (sym (c .before .before .before .before .before .before .before .before .before .before .before .before .component .ensures) ∙ c .before .before .before .before .before .before .before .before .before .before .start .given .1) (c .before .before .before .before .before .before .before .if2 .left) _ refl (c .before .before .before .before .before .dir-lookup .result) (c .before .before .before .before .before .dir-lookup .ensures) _ _ (c .before .before .before .inum .given .1) (c .if3 .taken)
 
--- src/lib.rt:61:44
 enum-told : tie.Need-enum-told
 enum-told c = search needs
 
--- src/lib.rt:64:22
 enum-told-2 : tie.Need-enum-told-2
 enum-told-2 c = search needs
 
--- src/lib.rt:29:1
 returns-4 : tie.Need-returns-4
 returns-4 c =
     step-outside (c .before .before .before .before .before .before .before .before .before .before .before .before .before .before .before .before .before .before .before .args .s) _ (c .before .before .before .before .before .before .before .before .before .before .before .before .before .before .before .before .before .before .before .args .i) (now (c .before .before .before .before .before .before .before .before .before .before .before .before .before .before .before .before .before .before .before .args .rest)) (c .before .before .before .before .before .before .before .before .before .before .before .before .before .before .before .read-inode .result)
     (fetched (c .before .before .before .before .before .before .before .before .before .before .before .before .before .before .before .before .before .before .before .args .s) _ (c .before .before .before .before .before .before .before .before .before .before .before .before .before .before .before .before .before .before .before .args .i) (c .before .before .before .before .before .before .before .before .before .before .before .before .before .before .before .read-inode .result) (c .before .before .before .before .before .before .before .before .before .before .before .before .before .before .before .before .before .before .before .pre .1 .some) (c .before .before .before .before .before .before .before .before .before .before .before .before .before .before .before .before .before .before .before .pre .1 .inside) (c .before .before .before .before .before .before .before .before .before .before .before .before .before .before .before .read-inode .ensures)) (c .before .before .before .before .before .before .before .before .before .before .before .before .before .before .fit .ensures)
     (not-false _ (c .before .before .before .before .before .before .before .before .before .before .before .before .before .if1 .left)) _ _ (sym (c .before .before .before .before .before .before .before .before .before .before .before .before .component .ensures) ∙ c .before .before .before .before .before .before .before .before .before .before .start .given .1) (c .before .before .before .before .before .before .before .if2 .left) _ refl (c .before .before .before .before .before .dir-lookup .result) (c .before .before .before .before .before .dir-lookup .ensures) _ _ (c .before .before .before .inum .given .1) (c .if3 .left)
 
--- src/lib.rt:29:1
 returns-5 : tie.Need-returns-5
 returns-5 c =
     step-missing (c .before .before .before .before .before .before .before .before .before .before .before .before .before .before .before .before .args .s) _ (c .before .before .before .before .before .before .before .before .before .before .before .before .before .before .before .before .args .i) (now (c .before .before .before .before .before .before .before .before .before .before .before .before .before .before .before .before .args .rest)) (c .before .before .before .before .before .before .before .before .before .before .before .before .read-inode .result)
     (fetched (c .before .before .before .before .before .before .before .before .before .before .before .before .before .before .before .before .args .s) _ (c .before .before .before .before .before .before .before .before .before .before .before .before .before .before .before .before .args .i) (c .before .before .before .before .before .before .before .before .before .before .before .before .read-inode .result) (c .before .before .before .before .before .before .before .before .before .before .before .before .before .before .before .before .pre .1 .some) (c .before .before .before .before .before .before .before .before .before .before .before .before .before .before .before .before .pre .1 .inside) (c .before .before .before .before .before .before .before .before .before .before .before .before .read-inode .ensures)) (c .before .before .before .before .before .before .before .before .before .before .before .fit .ensures)
     (not-false _ (c .before .before .before .before .before .before .before .before .before .before .if1 .left)) _ _ (sym (c .before .before .before .before .before .before .before .before .before .component .ensures) ∙ c .before .before .before .before .before .before .before .start .given .1) (c .before .before .before .before .if2 .left) _ refl (c .before .before .dir-lookup .result) (c .before .before .dir-lookup .ensures) (c .enum-told .given .1)
 
--- src/lib.rt:29:1
 returns-6 : tie.Need-returns-6
 returns-6 c =
     step-end (c .before .before .before .before .before .before .before .before .before .args .s) _ (c .before .before .before .before .before .before .before .before .before .args .i) (now (c .before .before .before .before .before .before .before .before .before .args .rest)) (c .before .before .before .before .before .read-inode .result)

@@ -1,7 +1,8 @@
-use mathlib.Core.Path.{_≡_, refl, ap, sym, _∙_}
+-- follow: the walk from where it stands is the walk asked for; Walks has a law for each turn. Each step takes a byte of the path.
+use mathlib.Core.Path.{_≡_, refl, sym, _∙_}
 use native.Mathlib.Omega.{arith}
-use Prim.Native.Nat.{ℕ, _+_, _-_, _*_, _<_, _≤_}
-use lib.ListN.{length, take, drop, length-take, length-drop}
+use Prim.Native.Nat.{_-_, _≤_}
+use lib.ListN.{length, drop, length-take, length-drop}
 use denote.Ref.{now}
 use Rattle.inode.specs.Lent.{diskSeen}
 use Rattle.walk.specs.Step.{From, step-led}
@@ -9,9 +10,6 @@ use Rattle.walk.specs.Walks.{walkOf, walk-to, walk-stay, walk-no}
 use borrow.Author.Needs.{needs}
 use Rattle.walk.proofs.follow.Statement.{statement}
 use Rattle.walk.proofs.follow.Tie as tie
-use Rattle.walk.proofs.follow.Reads as reads
-use Rattle.walk.proofs.follow.Lts as lts
-use Rattle.walk.proofs.advance.Reads as advance-reads
 
 abbrev Inv-loop : tie.InvT-loop
 Inv-loop blocks counts image cache s start path i₀ at₀ i at = (at ≤ length path) × From s i × (walkOf s (diskSeen s blocks counts cache image) i (drop at path) ≡ walkOf s (diskSeen s blocks counts cache image) start path)
@@ -19,43 +17,34 @@ Inv-loop blocks counts image cache s start path i₀ at₀ i at = (at ≤ length
 abbrev μ-loop : tie.MeasureT-loop
 μ-loop blocks counts image cache s start path i₀ at₀ i at = length path - at
 
--- src/lib.rt:83:5
 loop-holds : tie.Need-loop-holds Inv-loop μ-loop
 loop-holds c = (search needs, c .before .before .before .pre .1, refl)
 
--- src/lib.rt:84:59
 sub-advance : tie.Need-sub-advance Inv-loop μ-loop
 sub-advance c = search needs
 
--- src/lib.rt:84:59
 part-advance-start : tie.Need-part-advance-start Inv-loop μ-loop
 part-advance-start c = search needs
 
--- src/lib.rt:84:59
 part-advance-end : tie.Need-part-advance-end Inv-loop μ-loop
 part-advance-end c = search needs
 
--- src/lib.rt:84:15
 advance-requires : tie.Need-advance-requires Inv-loop μ-loop
 advance-requires c κs = (c .before .before .before .before .before .pre .0, c .before .loop .inv .1)
 
--- src/lib.rt:85:24
 enum-known-inum : tie.Need-enum-known-inum Inv-loop μ-loop
 enum-known-inum c = search needs
 
--- src/lib.rt:87:17
 add-at : tie.Need-add-at Inv-loop μ-loop
 add-at c =
     let led = step-led _ _ _ _ _ _ (sym (c .before .before .before .advance .ensures) ∙ c .before .inum .given .1) in
     omega (arith, led .within, length-take (length (now (c .before .before .before .before .before .before .before .before .before .args .path)) - c .before .before .before .before .before .loop .at) (drop (c .before .before .before .before .before .loop .at) (now (c .before .before .before .before .before .before .before .before .before .args .path))), length-drop (c .before .before .before .before .before .loop .at) (now (c .before .before .before .before .before .before .before .before .before .args .path)))
 
--- src/lib.rt:83:5
 loop-less : tie.Need-loop-less Inv-loop μ-loop
 loop-less c =
     let led = step-led _ _ _ _ _ _ (sym (c .before .before .before .advance .ensures) ∙ c .before .inum .given .1) in
     omega (arith, led .within, led .took, length-take (length (now (c .before .before .before .before .before .before .before .before .before .args .path)) - c .before .before .before .before .before .loop .at) (drop (c .before .before .before .before .before .loop .at) (now (c .before .before .before .before .before .before .before .before .before .args .path))), length-drop (c .before .before .before .before .before .loop .at) (now (c .before .before .before .before .before .before .before .before .before .args .path)))
 
--- src/lib.rt:83:5
 loop-again : tie.Need-loop-again Inv-loop μ-loop
 loop-again c =
     let led = step-led _ _ _ _ _ _ (sym (c .before .before .before .advance .ensures) ∙ c .before .inum .given .1) in (
@@ -64,19 +53,15 @@ loop-again c =
       sym (walk-to _ _ (c .before .before .before .before .before .loop .i) (c .before .before .before .before .before .loop .at) (now (c .before .before .before .before .before .before .before .before .before .args .path)) _ _ (sym (c .before .inum .given .1) ∙ c .before .before .before .advance .ensures)) ∙ c .before .before .before .before .before .loop .inv .2,
     )
 
--- src/lib.rt:89:27
 enum-told : tie.Need-enum-told Inv-loop μ-loop
 enum-told c = search needs
 
--- src/lib.rt:89:27
 returns : tie.Need-returns Inv-loop μ-loop
 returns c = sym (walk-stay _ _ (c .before .before .before .before .loop .i) (c .before .before .before .before .loop .at) (now (c .before .before .before .before .before .before .before .before .args .path)) (sym (c .enum-told .given .1) ∙ c .before .before .advance .ensures)) ∙ c .before .before .before .before .loop .inv .2
 
--- src/lib.rt:90:22
 enum-known-r : tie.Need-enum-known-r Inv-loop μ-loop
 enum-known-r c = search needs
 
--- src/lib.rt:90:28
 returns-2 : tie.Need-returns-2 Inv-loop μ-loop
 returns-2 c = sym (walk-no _ _ (c .before .before .before .before .before .loop .i) (c .before .before .before .before .before .loop .at) (now (c .before .before .before .before .before .before .before .before .before .args .path)) _ (sym (c .before .r .given .1) ∙ c .before .before .before .advance .ensures)) ∙ c .before .before .before .before .before .loop .inv .2
 

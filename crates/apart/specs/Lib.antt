@@ -1,0 +1,2 @@
+-- Distinct block numbers of one inode.
+pub mod Apart
