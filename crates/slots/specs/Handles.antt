@@ -1,6 +1,7 @@
 -- Which slot an inode is opened in, and when a handle is good (document 01, "Open" and "close"). Assumes nothing.
 use mathlib.Core.Path.{_≡_, refl, sym, ap, _∙_}
-use mathlib.Core.Bool.{Bool, true, false, cond}
+use mathlib.Core.Logic.{_≢_}
+use mathlib.Core.Bool.{Bool, true, false, cond, not}
 use mathlib.Core.List.{List}
 use Prim.Native.Nat.{ℕ, _≤_, _<_}
 use native.Mathlib.Omega.{arith}
@@ -8,7 +9,7 @@ use lib.ListN.{getD}
 use lib.Dec.{eqb, ltb}
 use borrow.Author.Tests.{lt-ltb, le-ltb, eqb-true, eqb-false}
 use Rattle.base.specs.First.{first}
-use Rattle.base.specs.Decide.{Decides}
+use Rattle.base.specs.Decide.{Decides, ne-decides, alike}
 use Rattle.state.specs.Slots.{slotOf}
 use Rattle.state.specs.declared.Handle.{Handle}
 
@@ -19,6 +20,11 @@ freeSlot refs = first (λ k. eqb (getD refs k 0) 0) 50
 -- the slot that holds inode i, else the lowest free one, else 50
 unfoldable pub slotFor : List ℕ → List ℕ → ℕ → ℕ
 slotFor inums refs i = cond (ltb (slotOf inums refs i 50) 50) (slotOf inums refs i 50) (freeSlot refs)
+
+-- k is a slot, and its count is not 1,000
+pub record Room (refs : List ℕ) (k : ℕ) : Type 0 where
+  pub slot : k < 50
+  pub below : getD refs k 0 ≢ 1000
 
 -- a handle is good while its slot is in use for its inode number
 pub record GoodHandle (inums refs : List ℕ) (h : Handle) : Type 0 where
@@ -59,3 +65,7 @@ found-held inums refs i k e h = e ∙ sym (for-held inums refs i (omega arith))
 
 pub found-free : (inums refs : List ℕ) (i k f : ℕ) → k ≡ slotOf inums refs i 50 → 50 ≤ k → f ≡ freeSlot refs → f ≡ slotFor inums refs i
 found-free inums refs i k f e h z = z ∙ sym (for-free inums refs i (omega arith))
+
+-- the test of a slot's count
+pub room-test : (refs : List ℕ) (k : ℕ) → k < 50 → Decides (not (eqb (getD refs k 0) 1000)) (Room refs k)
+room-test refs k h = alike (λ n. record { slot = h; below = n }) (λ r. r .below) (ne-decides (getD refs k 0) 1000)

@@ -5,7 +5,7 @@ ghost use mathlib.Core.Path.{_≡_};
 ghost use Prim.Native.Nat.{ℕ, _<_};
 ghost use lib.ListN.{getD, set};
 ghost use Rattle.base.specs.Decide.{Decides};
-ghost use Rattle.slots.specs.Handles.{GoodHandle, freeSlot, slotFor};
+ghost use Rattle.slots.specs.Handles.{GoodHandle, Room, freeSlot, slotFor};
 use state::Handle;
 
 // The lowest free slot, or 50.
@@ -31,6 +31,16 @@ pub fn slot_for<'b>(inums: &'b [u32; 50], refs: &'b [u32; 50], i: u32) -> usize
         return k;
     }
     free_slot(refs)
+}
+
+// Whether slot k, or 50, can take one reference more.
+pub fn has_room(refs: &[u32; 50], k: usize) -> bool
+    ensures { λ r. ⌜ Decides r (Room (now (refs .entry)) k) ⌝ }
+{
+    if 50 <= k {
+        return false;
+    }
+    refs[k] != 1000
 }
 
 // Whether a handle is good.

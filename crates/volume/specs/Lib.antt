@@ -5,3 +5,5 @@ pub mod Close
 pub mod Stat
 pub mod Read
 pub mod Inside
+pub mod Open
+pub mod Opens

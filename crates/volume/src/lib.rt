@@ -7,14 +7,27 @@ ghost use Prim.Native.Nat.{ℕ, _<_, _≤_};
 ghost use lib.ListN.{length, getD};
 ghost use Rattle.base.specs.Bytes.{bytes};
 ghost use Rattle.volume.specs.Signed.{IsSigned};
+ghost use Rattle.base.specs.Decide.{Decides};
+ghost use Rattle.volume.specs.Open.{OpenGives, openLeft, notOpened, Starts, origin};
 ghost use Rattle.volume.specs.Close.{CloseGives, closeLeft, notClosed};
 ghost use Rattle.volume.specs.Stat.{StatGives, statLeft, notStated};
 ghost use Rattle.volume.specs.Read.{ReadGives, readLeft, notRead};
 use base::Refusal;
 use state::Handle;
 use state::Volume;
+use walk::Walk;
 
 // What each call answers, and what it leaves.
+pub enum Opening {
+    Done(Handle),
+    Refused(Refusal),
+}
+
+pub struct AfterOpen {
+    pub volume: Volume,
+    pub answer: Opening,
+}
+
 pub enum Closing {
     Done,
     Refused(Refusal),
@@ -45,6 +58,15 @@ pub struct AfterStat {
     pub answer: Stating,
 }
 
+fn not_opened(v: Volume, n: Refusal) -> AfterOpen
+    ensures { λ r. ⌜ r ≡ notOpened v n ⌝ }
+{
+    AfterOpen {
+        volume: v,
+        answer: Opening::Refused(n),
+    }
+}
+
 fn not_closed(v: Volume, n: Refusal) -> AfterClose
     ensures { λ r. ⌜ r ≡ notClosed v n ⌝ }
 {
@@ -69,6 +91,77 @@ fn not_stated(v: Volume, n: Refusal) -> AfterStat
     AfterStat {
         volume: v,
         answer: Stating::Refused(n),
+    }
+}
+
+// Whether a walk of the path can start: only a path that does not begin with "/" looks at the handle.
+fn starts<'b>(inums: &'b [u32; 50], refs: &'b [u32; 50], path: &[u8], h: Handle) -> bool
+    ensures { λ r. ⌜ Decides r (Starts (now (inums .entry)) (now (refs .entry)) (now (path .entry)) h) ⌝ }
+{
+    let x = base::get(path, 0);
+    if x == b'/' {
+        return true;
+    }
+    slots::good_handle(inums, refs, h)
+}
+
+// The inode that it starts at.
+fn start(path: &[u8], h: Handle) -> u32
+    ensures { λ r. ⌜ r ≡ origin (now (path .entry)) h ⌝ }
+{
+    let x = base::get(path, 0);
+    if x == b'/' {
+        return 1;
+    }
+    h.inum
+}
+
+// A reference is taken on the slot that holds the inode that the path names, else on the lowest free one.
+pub fn open<'a>(v: Volume, image: &'a [u8], cache: &'a [u8], path: &[u8], h: Handle) -> AfterOpen
+    ensures { λ r. ⌜ OpenGives v (now (image .entry)) (now (cache .entry)) (now (path .entry)) h (openLeft r) ⌝ }
+{
+    if !state::whole(v, image) {
+        return not_opened(v, Refusal::NotWhole);
+    }
+    if cache.len() != 30720 {
+        return not_opened(v, Refusal::BadCall);
+    }
+    if path::too_long(path) {
+        return not_opened(v, Refusal::BadCall);
+    }
+    if !starts(&v.slots.inums, &v.slots.refs, path, h) {
+        return not_opened(v, Refusal::BadHandle);
+    }
+    let sb = v.sb;
+    match walk::follow(
+        &v.table.blocks,
+        &v.table.counts,
+        image,
+        cache,
+        sb,
+        start(path, h),
+        path,
+    ) {
+        Walk::Reached(i) => {
+            let k = slots::slot_for(&v.slots.inums, &v.slots.refs, i);
+            if !slots::has_room(&v.slots.refs, k) {
+                return not_opened(v, Refusal::NoSlot);
+            }
+            let n = slots::number_at(&v.slots.refs, k);
+            let mut w = v;
+            slots::store(&mut w.slots.inums, k, i);
+            slots::store(&mut w.slots.refs, k, n + 1);
+            let slot = base::small(k);
+            let handle = Handle {
+                slot: slot,
+                inum: i,
+            };
+            AfterOpen {
+                volume: w,
+                answer: Opening::Done(handle),
+            }
+        }
+        Walk::Refused(r) => not_opened(v, r),
     }
 }
 
