@@ -1,0 +1,2 @@
+-- An inode's content, copied part by part.
+pub mod Parts

@@ -1,0 +1,3 @@
+-- Handle slots.
+pub mod Handles
+pub mod Keeps
