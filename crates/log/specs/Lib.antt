@@ -6,3 +6,4 @@ pub mod Installing
 pub mod Headers
 pub mod Crash
 pub mod Kept
+pub mod Cases

@@ -7,3 +7,4 @@ pub mod Afterwards
 pub mod PulledCalls
 pub mod Survive
 pub mod Promises
+pub mod Cases
