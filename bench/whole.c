@@ -43,10 +43,10 @@ static double now(void) {
 }
 
 static void time_it(const char *what, Volume v) {
-    enum { N = 1000000 };
+    enum { N = 10000, RUNS = 400 };
     double best = 1e18;
     u32 yes = 0;
-    for (int run = 0; run < 7; run++) {
+    for (int run = 0; run < RUNS; run++) {
         double t = now();
         for (int i = 0; i < N; i++) {
             yes += whole_timed(v, image, sizeof image);
@@ -55,7 +55,7 @@ static void time_it(const char *what, Volume v) {
         t = (now() - t) / N;
         if (t < best) best = t;
     }
-    printf("%-48s %6.1f ns a call%s\n", what, best, yes == 7u * N ? "" : "  NOT WHOLE");
+    printf("%-48s %6.1f ns a call%s\n", what, best, yes == (u32)RUNS * N ? "" : "  NOT WHOLE");
 }
 
 int main(void) {
