@@ -13,6 +13,7 @@ ghost use Rattle.bio.specs.Part.{IsPart, IsBlock};
 
 // For each buffer its block and its references; and the buffers, most recently released first. A buffer that holds nothing has a block
 // number that no card has.
+#[repr(C)]
 pub struct Table {
     pub blocks: [u32; 30],
     pub counts: [u32; 30],

@@ -11,9 +11,7 @@ use Rattle.format.specs.Formatted.{numbersOf, fresh, ones}
 use Rattle.format.specs.Laws.{numbers-good}
 use native.Mathlib.Omega.{arith}
 use native.Mathlib.Decide.{decLt, decLe}
-use mathlib.Core.Bool.{cond}
-use lib.ListN.{getD}
-use Prim.Native.Nat.{_+_, _≤_, _<_, min}
+use Prim.Native.Nat.{_+_, _≤_, min}
 use Rattle.base.specs.Bytes.{Bytes, bytes}
 use Rattle.base.specs.Number.{le, digit}
 use Rattle.base.specs.Run.{run}

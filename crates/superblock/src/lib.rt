@@ -15,6 +15,7 @@ ghost use Rattle.superblock.specs.Entry.{entryAt, entryBytes, padded as 
 ghost use Rattle.superblock.specs.Blank.{Blank};
 
 // The superblock's numbers. The log starts at block 2 on every good card, so that number is not kept.
+#[repr(C)]
 pub struct Super {
     pub size: u32,
     pub nblocks: u32,

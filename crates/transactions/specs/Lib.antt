@@ -7,4 +7,3 @@ pub mod Afterwards
 pub mod PulledCalls
 pub mod Survive
 pub mod Promises
-pub mod Cases

@@ -1,26 +1,11 @@
--- Marked cases 11 and 12 of document 01, each by computing the definitions on a card given as bytes: case 1's, with two files in its root.
--- Assumes nothing.
-use mathlib.Core.Path.{_≡_, refl}
+-- A card given as bytes, for the marked cases 11 and 12 of document 01 (crate `cases`): case 1's, with two files in its root. Assumes nothing.
 use mathlib.Core.Bool.{cond}
 use mathlib.Core.List.{List, [], _∷_}
-use Prim.Native.Nat.{ℕ, _+_, _-_, _*_}
+use Prim.Native.Nat.{ℕ, _+_, _*_}
 use lib.Dec.{eqb}
-use Rattle.base.specs.First.{first, all, tabulate}
 use Rattle.base.specs.Bytes.{Bytes, bytes, put}
-use Rattle.base.specs.Number.{le, digit}
-use Rattle.base.specs.Bit.{bitAt}
 use Rattle.superblock.specs.declared.Super.{Super}
-use Rattle.superblock.specs.Entry.{padded}
-use Rattle.superblock.specs.Node.{Node, encoded, addrBytes, nodeIn, noNode}
-use Rattle.superblock.specs.Disk.{disk, inoOf, bitOf, memOf}
-use Rattle.rules.specs.Fit.{entry, slot}
-use Rattle.rules.specs.Tree.{numOf, nameOf as treeName}
-use Rattle.inode.specs.FitOf.{fitOf, shapeOf, takenOf, slotFit}
-use Rattle.path.specs.Names.{sameName}
-use Rattle.path.specs.Parts.{other, ends, startOf, endOf, partOf}
-use Rattle.dir.specs.Lookup.{hasName, entryOf, lookup}
-use Rattle.walk.specs.Step.{stepOf}
-use Rattle.walk.specs.Walks.{walkIn, walkOf, given}
+use Rattle.superblock.specs.Node.{Node, encoded}
 
 -- case 1's numbers
 unfoldable pub numbers : Super
@@ -48,17 +33,3 @@ unfoldable pub card : Bytes
 card =
     put (put (put (put bitmap (35 * 1024) 16 (bytes (1 ∷ 0 ∷ 46 ∷ []))) (35 * 1024 + 16) 16 (bytes (1 ∷ 0 ∷ 46 ∷ 46 ∷ [])))
     (35 * 1024 + 32) 16 (bytes (2 ∷ 0 ∷ 97 ∷ []))) (35 * 1024 + 48) 16 (bytes (3 ∷ 0 ∷ letters []))
-
--- 11: "/abcdefghijklmnop" finds the file "abcdefghijklmn"
-pub case-11 : given (walkOf numbers (disk numbers card) 1 (47 ∷ letters (111 ∷ 112 ∷ []))) ≡ 0 ∷ 3 ∷ []
-unfolding walkOf walkIn stepOf lookup entryOf hasName sameName partOf endOf startOf ends other fitOf shapeOf takenOf slotFit numOf treeName slot entry inoOf bitOf memOf encoded addrBytes nodeIn noNode padded bitAt le digit put first all tabulate numbers root file letters inodes bitmap card
-case-11 = refl
-
--- 12: "/a/" finds file a; "/a/b" gives 6
-pub case-12 : given (walkOf numbers (disk numbers card) 1 (47 ∷ 97 ∷ 47 ∷ [])) ≡ 0 ∷ 2 ∷ []
-unfolding walkOf walkIn stepOf lookup entryOf hasName sameName partOf endOf startOf ends other fitOf shapeOf takenOf slotFit numOf treeName slot entry inoOf bitOf memOf encoded addrBytes nodeIn noNode padded bitAt le digit put first all tabulate numbers root file letters inodes bitmap card
-case-12 = refl
-
-pub case-12-below : given (walkOf numbers (disk numbers card) 1 (47 ∷ 97 ∷ 47 ∷ 98 ∷ [])) ≡ 6 ∷ []
-unfolding walkOf walkIn stepOf lookup entryOf hasName sameName partOf endOf startOf ends other fitOf shapeOf takenOf slotFit numOf treeName slot entry inoOf bitOf memOf encoded addrBytes nodeIn noNode padded bitAt le digit put first all tabulate numbers root file letters inodes bitmap card
-case-12-below = refl
