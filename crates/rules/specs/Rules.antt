@@ -3,8 +3,8 @@
 use mathlib.Core.Path.{_≡_}
 use mathlib.Core.Logic.{_≢_, _⊎_}
 use mathlib.Core.List.{List}
-use Prim.Native.Nat.{ℕ, _+_, _*_, _≤_, _<_}
-use Rattle.base.specs.Bytes.{Bytes, bytes}
+use Prim.Native.Nat.{ℕ, _≤_, _<_}
+use Rattle.base.specs.Bytes.{Bytes}
 use Rattle.base.specs.Number.{get}
 use Rattle.superblock.specs.declared.Super.{Super}
 use Rattle.superblock.specs.Geometry.{Good, dataStart}
