@@ -1,19 +1,18 @@
 -- S3, slot by slot and inode by inode, as the code tests it. Assumes nothing.
 use mathlib.Core.Path.{_≡_, refl, sym, ap, _∙_}
 use mathlib.Core.Logic.{_⊎_, inl, inr}
-use mathlib.Core.Bool.{Bool, true, false, not}
-use Prim.Native.Nat.{ℕ, zero, suc, _+_, _-_, _*_, _/_, _%_, _≤_, _<_, min}
+use mathlib.Core.Bool.{Bool, true, false}
+use Prim.Native.Nat.{ℕ, zero, suc, _≤_, _<_}
 use native.Mathlib.Omega.{arith}
 use native.Mathlib.Decide.{decLt}
 use Rattle.superblock.specs.declared.Super.{Super}
 use Rattle.base.specs.Bytes.{Bytes}
 use Rattle.superblock.specs.Disk.{Disk, disk, inoOf}
-use Rattle.superblock.specs.Geometry.{GoodNumbers}
 use Rattle.superblock.specs.Node.{Node, noNode}
-use Rattle.rules.specs.Fit.{Shape, Taken, Fit, slots, slot, held, count, inUse}
+use Rattle.rules.specs.Fit.{Shape, Taken, Fit, slots, held, count, inUse}
 use Rattle.rules.specs.Rules.{S3}
 use Rattle.base.specs.Decide.{Decides, so, not-so, alike}
-use Rattle.reads.specs.Read.{Is, ino-low, ino-high}
+use Rattle.reads.specs.Read.{Is, ino-high}
 
 pub record SlotOk (g : Super) (v : Disk) (i n p : ℕ) : Type 0 where
   pub first : p < n → Taken g v (held v i p)

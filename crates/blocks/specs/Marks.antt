@@ -1,16 +1,13 @@
 -- Marks for held blocks, one number a block: S4 as the code tests it. Assumes nothing.
 use mathlib.Core.Path.{_≡_, refl, sym, ap, _∙_}
 use mathlib.Core.Logic.{_⊎_, inl, inr, _≢_}
-use mathlib.Core.Bool.{Bool, true, false, not, cond}
-use Prim.Native.Nat.{ℕ, zero, suc, _+_, _-_, _*_, _/_, _%_, _≤_, _<_, min}
+use mathlib.Core.Bool.{Bool, false}
+use Prim.Native.Nat.{ℕ, zero, suc, _+_, _≤_, _<_}
 use native.Mathlib.Omega.{arith}
 use native.Mathlib.Decide.{decLt, ℕ-discrete}
-use lib.Dec.{ltb}
-use mathlib.Core.Path.{fun-ext}
 use mathlib.Core.List.{List}
 use native.Mathlib.Numerals.{add-one}
 use lib.ListN.{getD, length, set}
-use lib.Seq.{getD-set-same, getD-set-other}
 use borrow.Author.Tests.{le-ltb}
 use Rattle.superblock.specs.declared.Super.{Super}
 use Rattle.base.specs.Bytes.{Bytes, bytes, put, put-in}
@@ -18,10 +15,10 @@ use Rattle.base.specs.Update.{upd, upd-same, upd-other, upd-set}
 use Rattle.superblock.specs.Disk.{Disk, disk, inoOf, bitOf}
 use Rattle.superblock.specs.Geometry.{GoodNumbers, dataStart, bits}
 use Rattle.superblock.specs.Node.{Node, noNode}
-use Rattle.rules.specs.Fit.{Shape, Taken, Fit, slots, slot, held, count, inUse}
-use Rattle.rules.specs.Rules.{S3, S4, Holder}
-use Rattle.base.specs.Decide.{Decides, so, not-so, alike}
-use Rattle.reads.specs.Read.{Is, ino-low, ino-high}
+use Rattle.rules.specs.Fit.{Taken, Fit, held, count, inUse}
+use Rattle.rules.specs.Rules.{S3, S4}
+use Rattle.base.specs.Decide.{Decides, not-so, alike}
+use Rattle.reads.specs.Read.{ino-high}
 
 -- the memory m with marks at f 0, .., f (n - 1)
 unfoldable pub marked : Bytes → (ℕ → ℕ) → ℕ → Bytes

@@ -2,7 +2,6 @@
 -- `Sound` exactly for the sound images. Assumes nothing.
 use mathlib.Core.Path.{_≡_, refl, sym, ap, subst, _∙_}
 use mathlib.Core.List.{List}
-use mathlib.Core.Bool.{Bool, true, false}
 use Prim.Native.Nat.{ℕ, zero, suc, _<_, _≤_}
 use native.Mathlib.Omega.{arith}
 use native.Mathlib.Decide.{decLt}
@@ -10,8 +9,6 @@ use lib.ListN.{length}
 use borrow.Rule.Slice.PartMut.{putMid}
 use Rattle.base.specs.Bytes.{Bytes, bytes, bytes-mid, put, put-over}
 use Rattle.base.specs.Number.{get}
-use Rattle.base.specs.declared.Refusal.{Refusal}
-use Rattle.base.specs.declared.Refusal.the-variants.{BadCall}
 use Rattle.superblock.specs.declared.Super.{Super}
 use Rattle.superblock.specs.Geometry.{GoodNumbers, Good, superOf}
 use Rattle.superblock.specs.Disk.{disk}

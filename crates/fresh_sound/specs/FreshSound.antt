@@ -1,28 +1,28 @@
 -- A freshly formatted card, of any good numbers, keeps all seven rules: `fresh-sound`. So the rules can be met, and format meets them.
 -- Assumes nothing.
-use mathlib.Core.Path.{_≡_, refl, sym, ap, _∙_, subst, fun-ext}
-use mathlib.Core.Logic.{_≢_, _⊎_, inl, inr}
-use mathlib.Core.Bool.{Bool, true, false, cond, _&&_}
+use mathlib.Core.Path.{_≡_, refl, sym, ap, _∙_, subst}
+use mathlib.Core.Logic.{_≢_, inl, inr}
+use mathlib.Core.Bool.{cond, _&&_}
 use mathlib.Core.List.{List, [], _∷_}
-use Prim.Native.Nat.{ℕ, zero, suc, _+_, _-_, _*_, _/_, _%_, _≤_, _<_, min}
+use Prim.Native.Nat.{ℕ, zero, suc, _+_, _-_, _*_, _/_, _%_, _≤_, _<_}
 use native.Mathlib.Omega.{arith}
 use native.Mathlib.Decide.{ℕ-discrete, decLt}
-use lib.ListN.{getD, length}
-use lib.Dec.{leb, ltb, eqb}
+use lib.ListN.{length}
+use lib.Dec.{leb, eqb}
 use borrow.Author.Tests.{lt-ltb, le-ltb, le-leb, lt-leb, ne-eqb}
-use Rattle.base.specs.Bytes.{Bytes, bytes, put, put-at}
+use Rattle.base.specs.Bytes.{Bytes, bytes, put-at}
 use Rattle.base.specs.Number.{get, le, le-cong, get-two}
 use Rattle.base.specs.First.{sumTo, getD-tabulate}
-use Rattle.base.specs.Update.{upd, upd-same, upd-other}
+use Rattle.base.specs.Update.{upd-same, upd-other}
 use Rattle.superblock.specs.declared.Super.{Super}
 use Rattle.superblock.specs.declared.Entry.{Entry}
-use Rattle.superblock.specs.Geometry.{GoodNumbers, Good, superOf, dataStart}
+use Rattle.superblock.specs.Geometry.{GoodNumbers, superOf, dataStart}
 use Rattle.superblock.specs.Node.{Node, noNode}
 use Rattle.superblock.specs.Disk.{Disk, disk}
 use Rattle.superblock.specs.Entry.{entryAt, padded}
-use Rattle.rules.specs.Fit.{Shape, Taken, Fit, slot, entry, held, count, slotOf, byteOf}
-use Rattle.rules.specs.Tree.{Tree, tree, isEntry, numOf, nameOf, dots, SameName, tally, names}
-use Rattle.rules.specs.Rules.{S1, S2, S3, S4, Dir, S5, S6, S7}
+use Rattle.rules.specs.Fit.{Taken, Fit, slot, entry, held, count, slotOf, byteOf}
+use Rattle.rules.specs.Tree.{tree, numOf, nameOf, dots, SameName, tally, names}
+use Rattle.rules.specs.Rules.{S3, S4, Dir, S5, S6, S7}
 use Rattle.rules.specs.Sound.{Sound}
 use Rattle.format.specs.Formatted.{rootNode, rootBlock, dot, dotdot, zeros, fresh}
 use Rattle.format.specs.Fresh.{freshDisk, disk-fresh, super-fresh, good-fresh, log-fresh, root-dot, root-dotdot, root-rest}

@@ -1,22 +1,20 @@
 -- Counting the entries that name each inode, and S7 inode by inode, as the code does it. Assumes nothing.
 use mathlib.Core.Path.{_≡_, refl, sym, ap, _∙_}
-use mathlib.Core.Logic.{_⊎_, inl, inr, _≢_}
-use mathlib.Core.Bool.{Bool, true, false, not, cond, _&&_}
+use mathlib.Core.Logic.{_≢_}
+use mathlib.Core.Bool.{Bool, true, false}
 use mathlib.Core.List.{List}
-use Prim.Native.Nat.{ℕ, zero, suc, _+_, _-_, _*_, _/_, _%_, _≤_, _<_, min}
+use Prim.Native.Nat.{ℕ, zero, suc, _+_, _*_, _≤_, _<_}
 use native.Mathlib.Omega.{arith}
-use native.Mathlib.Numerals.{add-one}
 use native.Mathlib.Decide.{decLt, ℕ-discrete, decLe}
-use lib.Dec.{ltb, leb, eqb}
 use lib.ListN.{getD, length, set}
 use lib.Seq.{getD-set-same, getD-set-other}
-use borrow.Author.Tests.{le-leb, lt-leb, eq-eqb, ne-eqb}
+use borrow.Author.Tests.{le-leb, eq-eqb, ne-eqb}
 use Rattle.superblock.specs.declared.Super.{Super}
 use Rattle.base.specs.Bytes.{Bytes, bytes}
 use Rattle.superblock.specs.Disk.{Disk, disk, inoOf}
 use Rattle.superblock.specs.Geometry.{GoodNumbers}
 use Rattle.superblock.specs.Node.{Node, noNode}
-use Rattle.rules.specs.Tree.{Tree, tree, numOf, tally, namesIn, names}
+use Rattle.rules.specs.Tree.{Tree, tree, tally, namesIn, names}
 use Rattle.base.specs.First.{sumTo, sum-more}
 use Rattle.rules.specs.Rules.{S7}
 use Rattle.base.specs.Decide.{Decides, so, not-so, alike}
@@ -49,20 +47,7 @@ sum-stop n (suc k) f h l = elim (decLe n k) [
   | no m ↦ sum-at (suc k) n f (omega arith)
 ]
 
-sum-le : (n : ℕ) (f : ℕ → ℕ) → ((j : ℕ) → f j ≤ 1) → sumTo n f ≤ n
-unfolding sumTo
-sum-le zero f h = omega arith
-sum-le (suc n) f h = omega (arith, sum-le n f h, h n)
-
 module _ (t : Tree) (i j : ℕ) where
-  tally-le : (k : ℕ) → tally t i j k ≤ 1
-  unfolding tally
-  tally-le k = go (leb 2 k && eqb (t .num j k) i)
-    where
-      go : (b : Bool) → cond b 1 0 ≤ 1
-      go true = omega arith
-      go false = omega arith
-
   pub tally-here : (k : ℕ) → 2 ≤ k → t .num j k ≡ i → tally t i j k ≡ 1
   unfolding tally
   tally-here k h e = rw (le-leb 2 k h, eq-eqb (t .num j k) i e)

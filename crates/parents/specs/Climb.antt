@@ -1,15 +1,15 @@
 -- S6 as the code tests it: each directory is named once, in the directory that its ".." names, and ".." leads up to the root. Assumes nothing.
-use mathlib.Core.Path.{_≡_, refl, sym, ap, _∙_, subst}
+use mathlib.Core.Path.{_≡_, refl, sym, ap, _∙_}
 use mathlib.Core.Logic.{_⊎_, inl, inr, _≢_}
-use mathlib.Core.Bool.{Bool, true, false, not, cond, _&&_}
-use Prim.Native.Nat.{ℕ, zero, suc, _+_, _-_, _*_, _/_, _%_, _≤_, _<_, min}
+use mathlib.Core.Bool.{Bool, true, false}
+use Prim.Native.Nat.{ℕ, zero, suc, _+_, _≤_, _<_}
 use native.Mathlib.Omega.{arith}
-use native.Mathlib.Decide.{decLt, ℕ-discrete, decLe}
+use native.Mathlib.Decide.{decLt, ℕ-discrete}
 use lib.Dec.{leb, eqb}
 use borrow.Author.Tests.{leb-true, eqb-true}
-use Rattle.base.specs.Bytes.{Bytes, bytes}
+use Rattle.base.specs.Bytes.{Bytes}
 use Rattle.base.specs.First.{sumTo}
-use Rattle.base.specs.Decide.{Decides, so, not-so, alike}
+use Rattle.base.specs.Decide.{Decides, so, alike}
 use Rattle.superblock.specs.declared.Super.{Super}
 use Rattle.superblock.specs.Geometry.{GoodNumbers}
 use Rattle.superblock.specs.Node.{Node, noNode}

@@ -1,23 +1,22 @@
 -- The parts of a disk as the code reads them. Assumes nothing.
 use mathlib.Core.Path.{_≡_, refl, sym, ap, _∙_}
 use mathlib.Core.Logic.{_⊎_, inl, inr}
-use mathlib.Core.Bool.{Bool, true, false, cond, _&&_}
+use mathlib.Core.Bool.{cond, _&&_}
 use mathlib.Core.List.{List}
-use Prim.Native.Nat.{ℕ, zero, suc, _+_, _-_, _*_, _/_, _%_, _^_, _≤_, _<_, min}
+use Prim.Native.Nat.{ℕ, zero, suc, _+_, _-_, _*_, _/_, _%_, _≤_, _<_}
 use native.Mathlib.Omega.{arith}
 use native.Mathlib.Decide.{decLt}
-use lib.ListN.{getD, length, List·getD-eq-default}
-use lib.Dec.{leb, ltb, eqb}
+use lib.Dec.{ltb}
 use borrow.Author.Tests.{lt-ltb, le-ltb, eq-eqb, ne-eqb}
 use denote.Ref.{RefT, now}
 use Rattle.base.specs.Bytes.{Bytes, bytes}
 use Rattle.base.specs.Number.{le, le-cong, get, get-two}
 use Rattle.base.specs.Bit.{bitAt}
 use Rattle.superblock.specs.declared.Super.{Super}
-use Rattle.superblock.specs.Geometry.{GoodNumbers, bits, dataStart, inodeAddr, bitAddr}
+use Rattle.superblock.specs.Geometry.{bits, dataStart, inodeAddr, bitAddr}
 use Rattle.superblock.specs.Node.{Node, nodeIn, noNode}
 use Rattle.superblock.specs.Disk.{Disk, disk, inoOf, bitOf, memOf}
-use Rattle.rules.specs.Fit.{Fit, Shape, entry, slot, held, slotOf, byteOf}
+use Rattle.rules.specs.Fit.{Fit, entry, slot, held, slotOf, byteOf}
 use Rattle.rules.specs.Tree.{isEntry, numOf, nameOf}
 use Rattle.rules.specs.Rules.{S3}
 

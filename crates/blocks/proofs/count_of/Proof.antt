@@ -1,31 +1,22 @@
+-- count_of: 0 for a free inode, else by its size.
 use Rattle.blocks.specs.Fits.{count-free, count-used, count-small}
 use native.Mathlib.Omega.{arith}
 use borrow.Author.Needs.{needs}
 use Rattle.blocks.proofs.count_of.Statement.{statement}
 use Rattle.blocks.proofs.count_of.Tie as tie
-use Rattle.blocks.proofs.count_of.Reads as reads
-use Rattle.blocks.proofs.count_of.Lts as lts
-use Rattle.blocks.proofs.slots_of.Reads as slots-of-reads
-use Rattle.reads.proofs.kind.Reads as kind-reads
-use Rattle.reads.proofs.size.Reads as size-reads
 
--- src/lib.rt:157:9
 kind-requires : tie.Need-kind-requires
 kind-requires c κs = search needs
 
--- src/lib.rt:159:9
 returns : tie.Need-returns
 returns c = count-free _ _ (c .before .before .before .pre .1) _ _ (c .before .kind .ensures) (c .if1 .taken)
 
--- src/lib.rt:161:9
 size-requires : tie.Need-size-requires
 size-requires c κs = search needs
 
--- src/lib.rt:162:5
 slots-of-requires : tie.Need-slots-of-requires
 slots-of-requires c κs = omega (arith, count-small _ _ (c .before .before .before .before .pre .1) _ _ (c .before .before .kind .ensures) (c .before .if1 .left), c .size .ensures .eq)
 
--- src/lib.rt:153:1
 returns-2 : tie.Need-returns-2
 returns-2 c = count-used _ _ (c .before .before .before .before .before .pre .1) _ _ (c .before .before .before .kind .ensures) _ _ (c .before .before .if1 .left) (c .before .size .ensures) (c .slots-of .ensures)
 

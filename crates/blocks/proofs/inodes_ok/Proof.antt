@@ -1,3 +1,4 @@
+-- inodes_ok: all inodes below i pass.
 use Prim.Native.Nat.{ℕ, _<_, _≤_, _-_}
 use native.Mathlib.Omega.{arith}
 use borrow.Author.Count.{below-more}
@@ -8,9 +9,6 @@ use Rattle.blocks.specs.Fits.{InodeOk}
 use borrow.Author.Needs.{needs}
 use Rattle.blocks.proofs.inodes_ok.Statement.{statement}
 use Rattle.blocks.proofs.inodes_ok.Tie as tie
-use Rattle.blocks.proofs.inodes_ok.Reads as reads
-use Rattle.blocks.proofs.inodes_ok.Lts as lts
-use Rattle.blocks.proofs.inode_ok.Reads as inode-ok-reads
 
 abbrev Inv-loop : tie.InvT-loop
 Inv-loop image g ninodes i₀ i = (i ≤ g .ninodes) × ((q : ℕ) → q < i → InodeOk g (disk g (bytes image)) q)
@@ -18,35 +16,27 @@ Inv-loop image g ninodes i₀ i = (i ≤ g .ninodes) × ((q : ℕ) → q < i →
 abbrev μ-loop : tie.MeasureT-loop
 μ-loop image g ninodes i₀ i = g .ninodes - i
 
--- src/lib.rt:115:19
 cast-ninodes : tie.Need-cast-ninodes Inv-loop μ-loop
 cast-ninodes c = search needs
 
--- src/lib.rt:117:5
 loop-holds : tie.Need-loop-holds Inv-loop μ-loop
 loop-holds c = (search needs, λ q h. absurd (omega arith))
 
--- src/lib.rt:118:13
 inode-ok-requires : tie.Need-inode-ok-requires Inv-loop μ-loop
 inode-ok-requires c κs = search needs
 
--- src/lib.rt:120:13
 returns : tie.Need-returns Inv-loop μ-loop
 returns c = not-so (λ f. denied (c .before .inode-ok .ensures) (c .if1 .taken) (f (c .before .before .before .loop .i) (c .before .before .loop-test .taken)))
 
--- src/lib.rt:122:9
 add-i : tie.Need-add-i Inv-loop μ-loop
 add-i c = search needs
 
--- src/lib.rt:117:5
 loop-less : tie.Need-loop-less Inv-loop μ-loop
 loop-less c = search needs
 
--- src/lib.rt:117:5
 loop-again : tie.Need-loop-again Inv-loop μ-loop
 loop-again c = (search needs, below-more _ _ (c .before .before .before .loop .inv .1) (passed (c .before .inode-ok .ensures) (c .if1 .left)))
 
--- src/lib.rt:111:1
 returns-2 : tie.Need-returns-2 Inv-loop μ-loop
 returns-2 c = so (λ q h. c .before .loop .inv .1 q (omega arith))
 

@@ -1,10 +1,10 @@
+-- mark_all: the memory is `markedAll` with the inodes below i.
 use Prim.Native.Nat.{ℕ, _<_, _≤_, _-_}
 use native.Mathlib.Omega.{arith}
-use mathlib.Core.Path.{_≡_, refl, sym, ap, _∙_}
-use mathlib.Core.Bool.{Bool}
+use mathlib.Core.Path.{_≡_, refl, ap, _∙_}
 use borrow.Author.Count.{below-more}
-use borrow.Author.Tests.{not-true, not-false}
-use lib.ListN.{length, getD, set}
+use borrow.Author.Tests.{not-false}
+use lib.ListN.{length}
 use Rattle.base.specs.Bytes.{bytes}
 use Rattle.superblock.specs.Disk.{disk}
 use Rattle.rules.specs.Fit.{held, count}
@@ -13,10 +13,6 @@ use Rattle.blocks.specs.Marks.{markedAll, Fresh, turn-all, turn-all-fres
 use borrow.Author.Needs.{needs}
 use Rattle.blocks.proofs.mark_all.Statement.{statement}
 use Rattle.blocks.proofs.mark_all.Tie as tie
-use Rattle.blocks.proofs.mark_all.Reads as reads
-use Rattle.blocks.proofs.mark_all.Lts as lts
-use Rattle.blocks.proofs.count_of.Reads as count-of-reads
-use Rattle.blocks.proofs.mark_slots.Reads as mark-slots-reads
 
 abbrev Inv-loop : tie.InvT-loop
 Inv-loop image g work₀ ninodes i₀ work i = (i ≤ g .ninodes) × (length work ≡ length work₀) × (bytes work ≡ markedAll (bytes work₀) (disk g (bytes image)) i) × ((q : ℕ) → q < i → Fresh (markedAll (bytes work₀) (disk g (bytes image)) q) (held (disk g (bytes image)) q) (count (disk g (bytes image)) q))
@@ -24,48 +20,37 @@ Inv-loop image g work₀ ninodes i₀ work i = (i ≤ g .ninodes) × (length wor
 abbrev μ-loop : tie.MeasureT-loop
 μ-loop image g work₀ ninodes i₀ work i = g .ninodes - i
 
--- src/lib.rt:188:19
 cast-ninodes : tie.Need-cast-ninodes Inv-loop μ-loop
 cast-ninodes c = search needs
 
--- src/lib.rt:190:5
 loop-holds : tie.Need-loop-holds Inv-loop μ-loop
 unfolding markedAll
 loop-holds c = (search needs, search needs, refl, λ q h. absurd (omega arith))
 
--- src/lib.rt:191:13
 count-of-requires : tie.Need-count-of-requires Inv-loop μ-loop
 count-of-requires c κs = search needs
 
--- src/lib.rt:192:13
 mark-slots-requires : tie.Need-mark-slots-requires Inv-loop μ-loop
 mark-slots-requires c κs = (c .before .before .before .before .before .before .before .pre .0, omega (arith, c .before .count-of .ensures .lt), λ p l. held-fits _ (c .before .before .before .before .before .before .before .pre .0) _ (c .before .before .before .before .before .before .before .pre .1) (c .before .before .before .loop .i) p (omega (arith, c .before .count-of .ensures .eq)), omega (arith, c .before .before .before .loop .inv .1, c .before .before .before .before .before .before .before .pre .2))
 
--- src/lib.rt:194:13
 same-length : tie.Need-same-length Inv-loop μ-loop
 same-length c = search needs
 
--- src/lib.rt:194:13
 returns : tie.Need-returns Inv-loop μ-loop
 returns c = let l = c .before .before .before .before .before .before .before .loop in (not-so (turn-all-stale _ _ _ (l .i) _ (l .inv .2) (c .before .before .before .before .before .count-of .ensures .eq) _ (c .before .before .before .before .before .before .loop-test .taken) (denied (c .before .before .before .mark-slots .ensures .0) (c .if1 .taken))), never)
 
--- src/lib.rt:196:9
 add-i : tie.Need-add-i Inv-loop μ-loop
 add-i c = search needs
 
--- src/lib.rt:190:5
 loop-less : tie.Need-loop-less Inv-loop μ-loop
 loop-less c = search needs
 
--- src/lib.rt:190:5
 loop-again : tie.Need-loop-again Inv-loop μ-loop
 loop-again c = let l = c .before .before .before .before .before .before .before .loop in (search needs, search needs, turn-all _ _ _ (l .i) _ (l .inv .2) (c .before .before .before .before .before .count-of .ensures .eq) _ (c .before .before .before .mark-slots .ensures .1 (not-false _ (c .if1 .left))), below-more _ _ (l .inv .3) (turn-all-fresh _ _ _ (l .i) _ (l .inv .2) (c .before .before .before .before .before .count-of .ensures .eq) (passed (c .before .before .before .mark-slots .ensures .0) (c .if1 .left))))
 
--- src/lib.rt:183:1
 same-length-2 : tie.Need-same-length-2 Inv-loop μ-loop
 same-length-2 c = search needs
 
--- src/lib.rt:183:1
 returns-2 : tie.Need-returns-2 Inv-loop μ-loop
 returns-2 c = let e : c .before .loop .i ≡ c .before .before .before .before .before .args .g .ninodes = omega arith in (so (λ q h. c .before .loop .inv .3 q (omega arith)), λ _. c .before .loop .inv .2 ∙ ap (markedAll _ _) e)
 

@@ -1,26 +1,19 @@
+-- slot_ok: by whether the slot is in use.
 use Rattle.base.specs.Decide.{eq-decides}
 use Rattle.blocks.specs.Fits.{slot-first, slot-rest}
 use borrow.Author.Needs.{needs}
 use Rattle.blocks.proofs.slot_ok.Statement.{statement}
 use Rattle.blocks.proofs.slot_ok.Tie as tie
-use Rattle.blocks.proofs.slot_ok.Reads as reads
-use Rattle.blocks.proofs.slot_ok.Lts as lts
-use Rattle.blocks.proofs.taken.Reads as taken-reads
-use Rattle.reads.proofs.slot_of.Reads as slot-of-reads
 
--- src/lib.rt:63:9
 slot-of-requires : tie.Need-slot-of-requires
 slot-of-requires c κs = search needs
 
--- src/lib.rt:65:9
 taken-requires : tie.Need-taken-requires
 taken-requires c κs = search needs
 
--- src/lib.rt:65:9
 returns : tie.Need-returns
 returns c = slot-first _ _ _ _ _ _ _ (c .before .before .slot-of .ensures) (c .before .if1 .taken) (c .taken .ensures)
 
--- src/lib.rt:59:1
 returns-2 : tie.Need-returns-2
 returns-2 c = slot-rest _ _ _ _ _ _ _ (c .before .slot-of .ensures) (c .if1 .left) (eq-decides _ _)
 

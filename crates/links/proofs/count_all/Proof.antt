@@ -1,3 +1,4 @@
+-- count_all: the counts are those of the directories below j (`Upto`).
 use Prim.Native.Nat.{ℕ, _<_, _≤_, _-_}
 use native.Mathlib.Omega.{arith}
 use mathlib.Core.Path.{_≡_}
@@ -9,10 +10,6 @@ use Rattle.links.specs.Counts.{Upto, all-start, all-turn, all-done}
 use borrow.Author.Needs.{needs}
 use Rattle.links.proofs.count_all.Statement.{statement}
 use Rattle.links.proofs.count_all.Tie as tie
-use Rattle.links.proofs.count_all.Reads as reads
-use Rattle.links.proofs.count_all.Lts as lts
-use Rattle.links.proofs.count_row.Reads as count-row-reads
-use Rattle.reads.proofs.entries_of.Reads as entries-of-reads
 
 abbrev Inv-loop : tie.InvT-loop
 Inv-loop image g work₀ ninodes j₀ work j = (j ≤ g .ninodes) × (length work ≡ length work₀) × ((i : ℕ) → i < 65536 → Upto (tree (disk g (bytes image))) j i (bytes work i))
@@ -20,39 +17,30 @@ Inv-loop image g work₀ ninodes j₀ work j = (j ≤ g .ninodes) × (length wor
 abbrev μ-loop : tie.MeasureT-loop
 μ-loop image g work₀ ninodes j₀ work j = g .ninodes - j
 
--- src/lib.rt:32:19
 cast-ninodes : tie.Need-cast-ninodes Inv-loop μ-loop
 cast-ninodes c = search needs
 
--- src/lib.rt:34:5
 loop-holds : tie.Need-loop-holds Inv-loop μ-loop
 loop-holds c = (search needs, search needs, all-start _ _ (c .before .before .before .pre .3))
 
--- src/lib.rt:35:13
 entries-of-requires : tie.Need-entries-of-requires Inv-loop μ-loop
 entries-of-requires c κs = search needs
 
--- src/lib.rt:36:9
 count-row-requires : tie.Need-count-row-requires Inv-loop μ-loop
 count-row-requires c κs = (c .before .before .before .before .before .before .before .pre .0, c .before .entries-of .ensures, omega (arith, c .before .before .before .loop .inv .1, c .before .before .before .before .before .before .before .pre .2), omega (arith, c .before .before .before .before .before .before .before .pre .0 .inodes-most), λ i l. c .before .before .before .loop .inv .2 i l .le, c .before .before .before .before .before .before .before .pre .1)
 
--- src/lib.rt:37:9
 add-j : tie.Need-add-j Inv-loop μ-loop
 add-j c = search needs
 
--- src/lib.rt:34:5
 loop-less : tie.Need-loop-less Inv-loop μ-loop
 loop-less c = search needs
 
--- src/lib.rt:34:5
 loop-again : tie.Need-loop-again Inv-loop μ-loop
 loop-again c = (search needs, search needs, all-turn _ (c .before .before .before .before .before .before .loop .j) _ _ (c .before .before .before .before .before .before .loop .inv .2) (c .before .before .count-row .ensures))
 
--- src/lib.rt:28:1
 same-length : tie.Need-same-length Inv-loop μ-loop
 same-length c = search needs
 
--- src/lib.rt:28:1
 returns : tie.Need-returns Inv-loop μ-loop
 returns c = all-done (c .before .before .before .before .before .args .g) (tree (disk (c .before .before .before .before .before .args .g) (bytes (c .before .before .before .before .before .args .image .now)))) (c .before .loop .j) _ (omega arith) (c .before .loop .inv .2)
 

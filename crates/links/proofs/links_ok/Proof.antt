@@ -1,3 +1,4 @@
+-- links_ok: all inodes below i pass.
 use Prim.Native.Nat.{ℕ, _<_, _≤_, _-_}
 use native.Mathlib.Omega.{arith}
 use Rattle.base.specs.Bytes.{bytes}
@@ -8,9 +9,6 @@ use Rattle.links.specs.Counts.{LinkOk, from-more}
 use borrow.Author.Needs.{needs}
 use Rattle.links.proofs.links_ok.Statement.{statement}
 use Rattle.links.proofs.links_ok.Tie as tie
-use Rattle.links.proofs.links_ok.Reads as reads
-use Rattle.links.proofs.links_ok.Lts as lts
-use Rattle.links.proofs.link_ok.Reads as link-ok-reads
 
 abbrev Inv-loop : tie.InvT-loop
 Inv-loop image g work ninodes i₀ i = (1 ≤ i) × (i ≤ g .ninodes) × ((q : ℕ) → 0 < q → q < i → LinkOk (tree (disk g (bytes image))) q (bytes work q))
@@ -18,43 +16,33 @@ Inv-loop image g work ninodes i₀ i = (1 ≤ i) × (i ≤ g .ninodes) × ((q : 
 abbrev μ-loop : tie.MeasureT-loop
 μ-loop image g work ninodes i₀ i = g .ninodes - i
 
--- src/lib.rt:72:19
 cast-ninodes : tie.Need-cast-ninodes Inv-loop μ-loop
 cast-ninodes c = search needs
 
--- src/lib.rt:74:5
 loop-holds : tie.Need-loop-holds Inv-loop μ-loop
 loop-holds c = (search needs, omega arith, λ q p h. absurd (omega arith))
 
--- src/lib.rt:75:17
 mul-n : tie.Need-mul-n Inv-loop μ-loop
 mul-n c = search needs
 
--- src/lib.rt:75:17
 shared-slice-read-n : tie.Need-shared-slice-read-n Inv-loop μ-loop
 shared-slice-read-n c = search needs
 
--- src/lib.rt:76:13
 link-ok-requires : tie.Need-link-ok-requires Inv-loop μ-loop
 link-ok-requires c κs = search needs
 
--- src/lib.rt:78:13
 returns : tie.Need-returns Inv-loop μ-loop
 returns c = not-so (λ f. denied (c .before .link-ok .ensures) (c .if1 .taken) (f (c .before .before .before .before .loop .i) (omega arith) (c .before .before .before .loop-test .taken)))
 
--- src/lib.rt:80:9
 add-i : tie.Need-add-i Inv-loop μ-loop
 add-i c = search needs
 
--- src/lib.rt:74:5
 loop-less : tie.Need-loop-less Inv-loop μ-loop
 loop-less c = search needs
 
--- src/lib.rt:74:5
 loop-again : tie.Need-loop-again Inv-loop μ-loop
 loop-again c = (search needs, search needs, from-more _ (c .before .before .before .before .loop .i) (c .before .before .before .before .loop .inv .2) (passed (c .before .link-ok .ensures) (c .if1 .left)))
 
--- src/lib.rt:68:1
 returns-2 : tie.Need-returns-2 Inv-loop μ-loop
 returns-2 c = so (λ q p h. c .before .loop .inv .2 q p (omega arith))
 

@@ -1,27 +1,20 @@
-use Rattle.base.specs.Decide.{so, not-so, alike}
+-- s7: the root, then all others.
+use Rattle.base.specs.Decide.{not-so, alike}
 use Rattle.links.specs.Counts.{s7-to, s7-from}
-use mathlib.Core.Path.{_≡_, sym, _∙_}
+use mathlib.Core.Path.{sym, _∙_}
 use borrow.Author.Needs.{needs}
 use Rattle.links.proofs.s7.Statement.{statement}
 use Rattle.links.proofs.s7.Tie as tie
-use Rattle.links.proofs.s7.Reads as reads
-use Rattle.links.proofs.s7.Lts as lts
-use Rattle.links.proofs.links_ok.Reads as links-ok-reads
-use Rattle.reads.proofs.nlink.Reads as nlink-reads
 
--- src/lib.rt:89:9
 nlink-requires : tie.Need-nlink-requires
 nlink-requires c κs = search needs
 
--- src/lib.rt:91:9
 returns : tie.Need-returns
 returns c = not-so (λ s. c .if1 .taken (c .before .nlink .ensures .eq ∙ s .root))
 
--- src/lib.rt:93:5
 links-ok-requires : tie.Need-links-ok-requires
 links-ok-requires c κs = search needs
 
--- src/lib.rt:85:1
 returns-2 : tie.Need-returns-2
 returns-2 c = alike (s7-to _ _ (c .before .before .before .before .before .pre .0) _ (c .before .before .before .before .before .pre .2) (sym (c .before .before .nlink .ensures .eq) ∙ c .before .if1 .left)) (s7-from _ _ (c .before .before .before .before .before .pre .0) _ (c .before .before .before .before .before .pre .2)) (c .links-ok .ensures)
 

@@ -1,18 +1,15 @@
-use Prim.Native.Nat.{ℕ, _<_, _≤_, _-_, _+_, _*_}
+-- entries_ok: all entries below k pass.
+use Prim.Native.Nat.{ℕ, _<_, _≤_, _-_}
 use native.Mathlib.Omega.{arith}
-use mathlib.Core.Path.{_≡_, sym, _∙_}
 use borrow.Author.Count.{below-more}
 use Rattle.base.specs.Bytes.{bytes}
-use Rattle.base.specs.Decide.{so, not-so, denied, passed, alike, negated, ne-decides}
+use Rattle.base.specs.Decide.{so, not-so, denied, passed}
 use Rattle.superblock.specs.Disk.{disk}
 use Rattle.rules.specs.Tree.{tree}
 use Rattle.names.specs.Names.{EntryOk}
 use borrow.Author.Needs.{needs}
 use Rattle.names.proofs.entries_ok.Statement.{statement}
 use Rattle.names.proofs.entries_ok.Tie as tie
-use Rattle.names.proofs.entries_ok.Reads as reads
-use Rattle.names.proofs.entries_ok.Lts as lts
-use Rattle.names.proofs.entry_ok.Reads as entry-ok-reads
 
 abbrev Inv-loop : tie.InvT-loop
 Inv-loop image g i n k₀ k = (k ≤ n) × ((q : ℕ) → q < k → EntryOk (tree (disk g (bytes image))) i q)
@@ -20,31 +17,24 @@ Inv-loop image g i n k₀ k = (k ≤ n) × ((q : ℕ) → q < k → EntryOk (tre
 abbrev μ-loop : tie.MeasureT-loop
 μ-loop image g i n k₀ k = n - k
 
--- src/lib.rt:148:5
 loop-holds : tie.Need-loop-holds Inv-loop μ-loop
 loop-holds c = (search needs, λ q h. absurd (omega arith))
 
--- src/lib.rt:149:13
 entry-ok-requires : tie.Need-entry-ok-requires Inv-loop μ-loop
 entry-ok-requires c κs = search needs
 
--- src/lib.rt:151:13
 returns : tie.Need-returns Inv-loop μ-loop
 returns c = not-so (λ f. denied (c .before .entry-ok .ensures) (c .if1 .taken) (f (c .before .before .before .loop .k) (c .before .before .loop-test .taken)))
 
--- src/lib.rt:153:9
 add-k : tie.Need-add-k Inv-loop μ-loop
 add-k c = search needs
 
--- src/lib.rt:148:5
 loop-less : tie.Need-loop-less Inv-loop μ-loop
 loop-less c = search needs
 
--- src/lib.rt:148:5
 loop-again : tie.Need-loop-again Inv-loop μ-loop
 loop-again c = (search needs, below-more _ _ (c .before .before .before .loop .inv .1) (passed (c .before .entry-ok .ensures) (c .if1 .left)))
 
--- src/lib.rt:143:1
 returns-2 : tie.Need-returns-2 Inv-loop μ-loop
 returns-2 c = so (λ q h. c .before .loop .inv .1 q (omega arith))
 

@@ -1,9 +1,9 @@
-use Prim.Native.Nat.{ℕ, _<_, _≤_, _-_, _+_, _*_}
+-- fresh_name: all entries below l differ.
+use Prim.Native.Nat.{ℕ, _<_, _≤_, _-_}
 use native.Mathlib.Omega.{arith}
-use mathlib.Core.Path.{_≡_, sym, _∙_}
 use borrow.Author.Count.{below-more}
 use Rattle.base.specs.Bytes.{bytes}
-use Rattle.base.specs.Decide.{so, not-so, denied, passed, alike, negated, ne-decides}
+use Rattle.base.specs.Decide.{so, not-so, denied, passed}
 use mathlib.Core.Logic.{_≢_}
 use Rattle.superblock.specs.Disk.{disk}
 use Rattle.rules.specs.Tree.{numOf, nameOf, SameName}
@@ -11,10 +11,6 @@ use Rattle.names.specs.Names.{differs-to, differs-from}
 use borrow.Author.Needs.{needs}
 use Rattle.names.proofs.fresh_name.Statement.{statement}
 use Rattle.names.proofs.fresh_name.Tie as tie
-use Rattle.names.proofs.fresh_name.Reads as reads
-use Rattle.names.proofs.fresh_name.Lts as lts
-use Rattle.names.proofs.differs.Reads as differs-reads
-use Rattle.reads.proofs.spot.Reads as spot-reads
 
 abbrev Inv-loop : tie.InvT-loop
 Inv-loop image g i n k a l₀ l = (l ≤ k) × ((q : ℕ) → q < l → numOf (disk g (bytes image)) i q ≢ 0 → SameName (nameOf (disk g (bytes image)) i k) (nameOf (disk g (bytes image)) i q) → ⊥)
@@ -22,35 +18,27 @@ Inv-loop image g i n k a l₀ l = (l ≤ k) × ((q : ℕ) → q < l → numOf (d
 abbrev μ-loop : tie.MeasureT-loop
 μ-loop image g i n k a l₀ l = k - l
 
--- src/lib.rt:109:5
 loop-holds : tie.Need-loop-holds Inv-loop μ-loop
 loop-holds c = (search needs, λ q h. absurd (omega arith))
 
--- src/lib.rt:110:13
 spot-requires : tie.Need-spot-requires Inv-loop μ-loop
 spot-requires c κs = (c .before .before .before .pre .0, c .before .before .before .pre .1, omega (arith, c .before .before .before .pre .2 .ends .most), c .before .before .before .pre .2 .dir, omega (arith, c .before .before .before .pre .2 .room))
 
--- src/lib.rt:111:13
 differs-requires : tie.Need-differs-requires Inv-loop μ-loop
 differs-requires c κs = (c .before .before .before .before .pre .4 .small, c .spot .ensures .small)
 
--- src/lib.rt:113:13
 returns : tie.Need-returns Inv-loop μ-loop
 returns c = not-so (λ f. denied (c .before .differs .ensures) (c .if1 .taken) (differs-from _ _ _ _ _ _ _ (c .before .before .before .before .before .before .pre .4) (c .before .before .spot .ensures) (f (c .before .before .before .before .loop .l) (c .before .before .before .loop-test .taken))))
 
--- src/lib.rt:115:9
 add-l : tie.Need-add-l Inv-loop μ-loop
 add-l c = search needs
 
--- src/lib.rt:109:5
 loop-less : tie.Need-loop-less Inv-loop μ-loop
 loop-less c = search needs
 
--- src/lib.rt:109:5
 loop-again : tie.Need-loop-again Inv-loop μ-loop
 loop-again c = (search needs, below-more _ _ (c .before .before .before .before .loop .inv .1) (differs-to _ _ _ _ _ _ _ (c .before .before .before .before .before .before .pre .4) (c .before .before .spot .ensures) (passed (c .before .differs .ensures) (c .if1 .left))))
 
--- src/lib.rt:104:1
 returns-2 : tie.Need-returns-2 Inv-loop μ-loop
 returns-2 c = so (λ q h. c .before .loop .inv .1 q (omega arith))
 

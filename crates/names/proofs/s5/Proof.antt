@@ -1,9 +1,10 @@
-use Prim.Native.Nat.{ℕ, _<_, _≤_, _-_, _+_, _*_}
+-- s5: all inodes below i pass.
+use Prim.Native.Nat.{ℕ, _<_, _≤_, _-_}
 use native.Mathlib.Omega.{arith}
-use mathlib.Core.Path.{_≡_, sym, _∙_}
+use mathlib.Core.Path.{_≡_}
 use borrow.Author.Count.{below-more}
 use Rattle.base.specs.Bytes.{bytes}
-use Rattle.base.specs.Decide.{so, not-so, denied, passed, alike, negated, ne-decides}
+use Rattle.base.specs.Decide.{so, not-so, denied, passed}
 use Rattle.superblock.specs.Disk.{disk}
 use Rattle.rules.specs.Tree.{tree}
 use Rattle.rules.specs.Rules.{Dir}
@@ -11,9 +12,6 @@ use Rattle.names.specs.Names.{s5-to}
 use borrow.Author.Needs.{needs}
 use Rattle.names.proofs.s5.Statement.{statement}
 use Rattle.names.proofs.s5.Tie as tie
-use Rattle.names.proofs.s5.Reads as reads
-use Rattle.names.proofs.s5.Lts as lts
-use Rattle.names.proofs.dir_if.Reads as dir-if-reads
 
 abbrev Inv-loop : tie.InvT-loop
 Inv-loop image g ninodes i₀ i = (i ≤ g .ninodes) × ((q : ℕ) → q < i → disk g (bytes image) .ino q .kind ≡ 1 → Dir (tree (disk g (bytes image))) q)
@@ -21,35 +19,27 @@ Inv-loop image g ninodes i₀ i = (i ≤ g .ninodes) × ((q : ℕ) → q < i →
 abbrev μ-loop : tie.MeasureT-loop
 μ-loop image g ninodes i₀ i = g .ninodes - i
 
--- src/lib.rt:196:19
 cast-ninodes : tie.Need-cast-ninodes Inv-loop μ-loop
 cast-ninodes c = search needs
 
--- src/lib.rt:198:5
 loop-holds : tie.Need-loop-holds Inv-loop μ-loop
 loop-holds c = (search needs, λ q h. absurd (omega arith))
 
--- src/lib.rt:199:13
 dir-if-requires : tie.Need-dir-if-requires Inv-loop μ-loop
 dir-if-requires c κs = search needs
 
--- src/lib.rt:201:13
 returns : tie.Need-returns Inv-loop μ-loop
 returns c = not-so (λ s. denied (c .before .dir-if .ensures) (c .if1 .taken) (s .each (c .before .before .before .loop .i)))
 
--- src/lib.rt:203:9
 add-i : tie.Need-add-i Inv-loop μ-loop
 add-i c = search needs
 
--- src/lib.rt:198:5
 loop-less : tie.Need-loop-less Inv-loop μ-loop
 loop-less c = search needs
 
--- src/lib.rt:198:5
 loop-again : tie.Need-loop-again Inv-loop μ-loop
 loop-again c = (search needs, below-more _ _ (c .before .before .before .loop .inv .1) (passed (c .before .dir-if .ensures) (c .if1 .left)))
 
--- src/lib.rt:192:1
 returns-2 : tie.Need-returns-2 Inv-loop μ-loop
 returns-2 c = so (s5-to _ (c .before .before .before .before .pre .0) _ (λ q h. c .before .loop .inv .1 q (omega arith)))
 

@@ -1,18 +1,15 @@
-use Prim.Native.Nat.{ℕ, _<_, _≤_, _-_, _+_, _*_}
+-- all_home: all directories below j pass.
+use Prim.Native.Nat.{ℕ, _<_, _≤_, _-_}
 use native.Mathlib.Omega.{arith}
-use mathlib.Core.Path.{_≡_, refl, ap, sym, _∙_}
 use borrow.Author.Count.{below-more}
 use Rattle.base.specs.Bytes.{bytes}
-use Rattle.base.specs.Decide.{so, not-so, denied, passed, alike, eq-decides}
+use Rattle.base.specs.Decide.{so, not-so, denied, passed}
 use Rattle.superblock.specs.Disk.{disk}
-use Rattle.rules.specs.Tree.{tree, up, follow, Reaches}
+use Rattle.rules.specs.Tree.{tree}
 use Rattle.parents.specs.Climb.{HomeOk}
 use borrow.Author.Needs.{needs}
 use Rattle.parents.proofs.all_home.Statement.{statement}
 use Rattle.parents.proofs.all_home.Tie as tie
-use Rattle.parents.proofs.all_home.Reads as reads
-use Rattle.parents.proofs.all_home.Lts as lts
-use Rattle.parents.proofs.dir_home.Reads as dir-home-reads
 
 abbrev Inv-loop : tie.InvT-loop
 Inv-loop image g ninodes j₀ j = (j ≤ g .ninodes) × ((q : ℕ) → q < j → (k : ℕ) → 2 ≤ k → HomeOk (tree (disk g (bytes image))) q k)
@@ -20,35 +17,27 @@ Inv-loop image g ninodes j₀ j = (j ≤ g .ninodes) × ((q : ℕ) → q < j →
 abbrev μ-loop : tie.MeasureT-loop
 μ-loop image g ninodes j₀ j = g .ninodes - j
 
--- src/lib.rt:93:19
 cast-ninodes : tie.Need-cast-ninodes Inv-loop μ-loop
 cast-ninodes c = search needs
 
--- src/lib.rt:95:5
 loop-holds : tie.Need-loop-holds Inv-loop μ-loop
 loop-holds c = (search needs, λ q h. absurd (omega arith))
 
--- src/lib.rt:96:13
 dir-home-requires : tie.Need-dir-home-requires Inv-loop μ-loop
 dir-home-requires c κs = search needs
 
--- src/lib.rt:98:13
 returns : tie.Need-returns Inv-loop μ-loop
 returns c = not-so (λ f. denied (c .before .dir-home .ensures) (c .if1 .taken) (f (c .before .before .before .loop .j) (c .before .before .loop-test .taken)))
 
--- src/lib.rt:100:9
 add-j : tie.Need-add-j Inv-loop μ-loop
 add-j c = search needs
 
--- src/lib.rt:95:5
 loop-less : tie.Need-loop-less Inv-loop μ-loop
 loop-less c = search needs
 
--- src/lib.rt:95:5
 loop-again : tie.Need-loop-again Inv-loop μ-loop
 loop-again c = (search needs, below-more _ _ (c .before .before .before .loop .inv .1) (passed (c .before .dir-home .ensures) (c .if1 .left)))
 
--- src/lib.rt:89:1
 returns-2 : tie.Need-returns-2 Inv-loop μ-loop
 returns-2 c = so (λ q h. c .before .loop .inv .1 q (omega arith))
 

@@ -1,21 +1,15 @@
+-- dir_home: past the last entry nothing is asked.
 use Rattle.parents.specs.Climb.{row-all}
 use borrow.Author.Needs.{needs}
 use Rattle.parents.proofs.dir_home.Statement.{statement}
 use Rattle.parents.proofs.dir_home.Tie as tie
-use Rattle.parents.proofs.dir_home.Reads as reads
-use Rattle.parents.proofs.dir_home.Lts as lts
-use Rattle.parents.proofs.row_home.Reads as row-home-reads
-use Rattle.reads.proofs.entries_of.Reads as entries-of-reads
 
--- src/lib.rt:85:9
 entries-of-requires : tie.Need-entries-of-requires
 entries-of-requires c κs = search needs
 
--- src/lib.rt:86:5
 row-home-requires : tie.Need-row-home-requires
 row-home-requires c κs = (c .before .before .pre .0, c .before .before .pre .1, c .entries-of .ensures .most)
 
--- src/lib.rt:81:1
 returns : tie.Need-returns
 returns c = row-all _ _ _ _ _ (c .before .entries-of .ensures) (c .row-home .ensures)
 

@@ -1,18 +1,14 @@
-use Prim.Native.Nat.{ℕ, _<_, _≤_, _-_, _+_, _*_}
+-- row_home: all entries from 2 to k pass.
+use Prim.Native.Nat.{ℕ, _<_, _≤_, _-_}
 use native.Mathlib.Omega.{arith}
-use mathlib.Core.Path.{_≡_, refl, ap, sym, _∙_}
-use borrow.Author.Count.{below-more}
 use Rattle.base.specs.Bytes.{bytes}
-use Rattle.base.specs.Decide.{so, not-so, denied, passed, alike, eq-decides}
+use Rattle.base.specs.Decide.{so, not-so, denied, passed}
 use Rattle.superblock.specs.Disk.{disk}
-use Rattle.rules.specs.Tree.{tree, up, follow, Reaches}
+use Rattle.rules.specs.Tree.{tree}
 use Rattle.parents.specs.Climb.{HomeOk, third-more}
 use borrow.Author.Needs.{needs}
 use Rattle.parents.proofs.row_home.Statement.{statement}
 use Rattle.parents.proofs.row_home.Tie as tie
-use Rattle.parents.proofs.row_home.Reads as reads
-use Rattle.parents.proofs.row_home.Lts as lts
-use Rattle.parents.proofs.home_ok.Reads as home-ok-reads
 
 abbrev Inv-loop : tie.InvT-loop
 Inv-loop image g j n k₀ k = (2 ≤ k) × ((q : ℕ) → 2 ≤ q → q < k → HomeOk (tree (disk g (bytes image))) j q)
@@ -20,31 +16,24 @@ Inv-loop image g j n k₀ k = (2 ≤ k) × ((q : ℕ) → 2 ≤ q → q < k → 
 abbrev μ-loop : tie.MeasureT-loop
 μ-loop image g j n k₀ k = n - k
 
--- src/lib.rt:71:5
 loop-holds : tie.Need-loop-holds Inv-loop μ-loop
 loop-holds c = (search needs, λ q p h. absurd (omega arith))
 
--- src/lib.rt:72:13
 home-ok-requires : tie.Need-home-ok-requires Inv-loop μ-loop
 home-ok-requires c κs = search needs
 
--- src/lib.rt:74:13
 returns : tie.Need-returns Inv-loop μ-loop
 returns c = not-so (λ f. denied (c .before .home-ok .ensures) (c .if1 .taken) (f (c .before .before .before .loop .k) (c .before .before .before .loop .inv .0) (c .before .before .loop-test .taken)))
 
--- src/lib.rt:76:9
 add-k : tie.Need-add-k Inv-loop μ-loop
 add-k c = search needs
 
--- src/lib.rt:71:5
 loop-less : tie.Need-loop-less Inv-loop μ-loop
 loop-less c = search needs
 
--- src/lib.rt:71:5
 loop-again : tie.Need-loop-again Inv-loop μ-loop
 loop-again c = (search needs, third-more _ (c .before .before .before .loop .k) (c .before .before .before .loop .inv .1) (passed (c .before .home-ok .ensures) (c .if1 .left)))
 
--- src/lib.rt:66:1
 returns-2 : tie.Need-returns-2 Inv-loop μ-loop
 returns-2 c = so (λ q p h. c .before .loop .inv .1 q p (omega arith))
 

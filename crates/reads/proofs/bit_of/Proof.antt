@@ -1,39 +1,29 @@
+-- bit_of: the byte at the bit's address, by `bit-is`.
 use Rattle.reads.specs.Read.{bit-is}
 use Rattle.base.specs.Bytes.{bytes}
 use native.Mathlib.Omega.{arith}
 use borrow.Author.Needs.{needs}
 use Rattle.reads.proofs.bit_of.Statement.{statement}
 use Rattle.reads.proofs.bit_of.Tie as tie
-use Rattle.reads.proofs.bit_of.Reads as reads
-use Rattle.reads.proofs.bit_of.Lts as lts
-use Rattle.base.proofs.bit_of.Reads as bit-of-reads
-use Rattle.base.proofs.get.Reads as get-reads
 
--- src/lib.rt:122:13
 cast-k : tie.Need-cast-k
 cast-k c = search needs
 
--- src/lib.rt:123:30
 cast-get : tie.Need-cast-get
 cast-get c = search needs
 
--- src/lib.rt:123:30
 mul-get : tie.Need-mul-get
 mul-get c = search needs
 
--- src/lib.rt:123:30
 add-get : tie.Need-add-get
 add-get c = search needs
 
--- src/lib.rt:123:9
 get-requires : tie.Need-get-requires
 get-requires c κs = search needs
 
--- src/lib.rt:124:5
 bit-of-requires : tie.Need-bit-of-requires
 bit-of-requires c κs = search needs
 
--- src/lib.rt:118:1
 returns : tie.Need-returns
 returns c = bit-is (c .before .before .before .before .args .g) (bytes (c .before .before .before .before .args .image .now)) (c .before .before .before .before .args .b) _ (c .before .get .result) (omega (arith, c .before .before .before .before .pre .1)) (c .before .get .ensures) (c .bit-of .ensures)
 

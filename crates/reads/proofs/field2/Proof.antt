@@ -1,50 +1,38 @@
+-- field2: the two bytes at the inode's address, or 0 where there is none.
 use Rattle.reads.specs.Read.{field-none, field-past, field-here}
 use Rattle.base.specs.Bytes.{bytes}
 use native.Mathlib.Omega.{arith}
 use borrow.Author.Needs.{needs}
 use Rattle.reads.proofs.field2.Statement.{statement}
 use Rattle.reads.proofs.field2.Tie as tie
-use Rattle.reads.proofs.field2.Reads as reads
-use Rattle.reads.proofs.field2.Lts as lts
-use Rattle.reads.proofs.num2.Reads as num2-reads
 
--- src/lib.rt:44:9
 returns : tie.Need-returns
 returns c = field-none _ _ _ _ _ _ (c .if1 .taken) (omega arith)
 
--- src/lib.rt:46:8
 cast-if2 : tie.Need-cast-if2
 cast-if2 c = search needs
 
--- src/lib.rt:47:9
 returns-2 : tie.Need-returns-2
 returns-2 c = field-past _ _ _ _ _ _ (c .if2 .taken) (omega arith) (c .before .before .if1 .left)
 
--- src/lib.rt:49:17
 cast-num2 : tie.Need-cast-num2
 cast-num2 c = search needs
 
--- src/lib.rt:49:17
 mul-num2 : tie.Need-mul-num2
 mul-num2 c = search needs
 
--- src/lib.rt:49:48
 mul-num2-2 : tie.Need-mul-num2-2
 mul-num2-2 c = search needs
 
--- src/lib.rt:49:17
 add-num2 : tie.Need-add-num2
 add-num2 c = search needs
 
--- src/lib.rt:49:17
 add-num2-2 : tie.Need-add-num2-2
 add-num2-2 c = search needs
 
--- src/lib.rt:49:5
 num2-requires : tie.Need-num2-requires
 num2-requires c κs = search needs
 
--- src/lib.rt:39:1
 returns-3 : tie.Need-returns-3
 returns-3 c = field-here (c .before .before .before .before .before .before .args .g) (bytes (c .before .before .before .before .before .before .args .image .now)) (c .before .before .before .before .before .before .args .i) (c .before .before .before .before .before .before .args .o) _ _ _ (c .before .before .before .before .if1 .left) (c .before .before .if2 .left) (c .num2 .ensures)
 

@@ -1,50 +1,38 @@
+-- field4: as field2, of four bytes.
 use Rattle.reads.specs.Read.{field-none, field-past, field-here}
 use Rattle.base.specs.Bytes.{bytes}
 use native.Mathlib.Omega.{arith}
 use borrow.Author.Needs.{needs}
 use Rattle.reads.proofs.field4.Statement.{statement}
 use Rattle.reads.proofs.field4.Tie as tie
-use Rattle.reads.proofs.field4.Reads as reads
-use Rattle.reads.proofs.field4.Lts as lts
-use Rattle.reads.proofs.num4.Reads as num4-reads
 
--- src/lib.rt:57:9
 returns : tie.Need-returns
 returns c = field-none _ _ _ _ _ _ (c .if1 .taken) (omega arith)
 
--- src/lib.rt:59:8
 cast-if2 : tie.Need-cast-if2
 cast-if2 c = search needs
 
--- src/lib.rt:60:9
 returns-2 : tie.Need-returns-2
 returns-2 c = field-past _ _ _ _ _ _ (c .if2 .taken) (omega arith) (c .before .before .if1 .left)
 
--- src/lib.rt:62:17
 cast-num4 : tie.Need-cast-num4
 cast-num4 c = search needs
 
--- src/lib.rt:62:17
 mul-num4 : tie.Need-mul-num4
 mul-num4 c = search needs
 
--- src/lib.rt:62:48
 mul-num4-2 : tie.Need-mul-num4-2
 mul-num4-2 c = search needs
 
--- src/lib.rt:62:17
 add-num4 : tie.Need-add-num4
 add-num4 c = search needs
 
--- src/lib.rt:62:17
 add-num4-2 : tie.Need-add-num4-2
 add-num4-2 c = search needs
 
--- src/lib.rt:62:5
 num4-requires : tie.Need-num4-requires
 num4-requires c κs = search needs
 
--- src/lib.rt:52:1
 returns-3 : tie.Need-returns-3
 returns-3 c = field-here (c .before .before .before .before .before .before .args .g) (bytes (c .before .before .before .before .before .before .args .image .now)) (c .before .before .before .before .before .before .args .i) (c .before .before .before .before .before .before .args .o) _ _ _ (c .before .before .before .before .if1 .left) (c .before .before .if2 .left) (c .num4 .ensures)
 

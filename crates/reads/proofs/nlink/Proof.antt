@@ -1,16 +1,12 @@
+-- nlink: field2 at 6.
 use Rattle.reads.specs.Read.{is-to, field-nlink}
 use borrow.Author.Needs.{needs}
 use Rattle.reads.proofs.nlink.Statement.{statement}
 use Rattle.reads.proofs.nlink.Tie as tie
-use Rattle.reads.proofs.nlink.Reads as reads
-use Rattle.reads.proofs.nlink.Lts as lts
-use Rattle.reads.proofs.field2.Reads as field2-reads
 
--- src/lib.rt:76:5
 field2-requires : tie.Need-field2-requires
 field2-requires c κs = search needs
 
--- src/lib.rt:72:1
 returns : tie.Need-returns
 returns c = is-to _ (c .field2 .ensures) (field-nlink _ _ _)
 

@@ -1,37 +1,27 @@
+-- spot: the block of the slot and the byte in it, by `spot-is`.
 use Rattle.reads.specs.Read.{spot-is}
 use borrow.Author.Needs.{needs}
 use Rattle.reads.proofs.spot.Statement.{statement}
 use Rattle.reads.proofs.spot.Tie as tie
-use Rattle.reads.proofs.spot.Reads as reads
-use Rattle.reads.proofs.spot.Lts as lts
-use Rattle.reads.proofs.slot_at.Reads as slot-at-reads
-use Rattle.reads.proofs.slot_of.Reads as slot-of-reads
 
--- src/lib.rt:140:21
 mul-slot-at : tie.Need-mul-slot-at
 mul-slot-at c = search needs
 
--- src/lib.rt:140:9
 slot-at-requires : tie.Need-slot-at-requires
 slot-at-requires c κs = search needs
 
--- src/lib.rt:141:9
 slot-of-requires : tie.Need-slot-of-requires
 slot-of-requires c κs = search needs
 
--- src/lib.rt:142:5
 mul-result : tie.Need-mul-result
 mul-result c = search needs
 
--- src/lib.rt:142:16
 mul-result-2 : tie.Need-mul-result-2
 mul-result-2 c = search needs
 
--- src/lib.rt:142:5
 add-result : tie.Need-add-result
 add-result c = search needs
 
--- src/lib.rt:136:1
 returns : tie.Need-returns
 returns c = spot-is _ _ _ _ _ _ (c .before .before .before .pre .1) (c .before .before .before .pre .3) (c .before .before .before .pre .4) (c .before .slot-at .ensures) (c .slot-of .ensures)
 
