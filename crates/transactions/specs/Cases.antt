@@ -1,5 +1,4 @@
 -- Document 01's marked cases 5 and 6: when a begin is busy. Assumes nothing.
-use Prim.Native.Nat.{ℕ}
 use native.Mathlib.Omega.{arith}
 use Rattle.transactions.specs.Calls.{IsBusy}
 
