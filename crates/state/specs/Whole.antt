@@ -1,11 +1,10 @@
 -- A state is whole: document 01's "A state is whole when ..", sentence by sentence. Contents are not compared. Assumes nothing.
 use mathlib.Core.Path.{_≡_}
-use mathlib.Core.Bool.{true, false}
+use mathlib.Core.Bool.{false}
 use mathlib.Core.List.{List}
-use Prim.Native.Nat.{ℕ, _+_, _*_, _≤_, _<_, min}
+use Prim.Native.Nat.{ℕ, _+_, _≤_, _<_, min}
 use lib.ListN.{getD, length}
-use Rattle.base.specs.Bytes.{Bytes, bytes}
-use Rattle.base.specs.Number.{get}
+use Rattle.base.specs.Bytes.{bytes}
 use Rattle.bio.specs.Among.{among, Distinct}
 use Rattle.bio.specs.Order.{Named}
 use Rattle.superblock.specs.declared.Super.{Super}
@@ -74,14 +73,3 @@ pub record Whole (v : Volume) (image : List ℕ) : Type 0 where
   pub order : Named (v .table .order)
   pub slots : GoodSlots (v .slots .inums) (v .slots .refs) (v .sb .ninodes)
   pub lengths : Lengths v
-
--- the eight numbers of block 1
-pub record Written (s : Super) (d : Bytes) : Type 0 where
-  pub magic : get d 1024 4 ≡ 0x10203040
-  pub size : get d 1028 4 ≡ s .size
-  pub nblocks : get d 1032 4 ≡ s .nblocks
-  pub ninodes : get d 1036 4 ≡ s .ninodes
-  pub nlog : get d 1040 4 ≡ s .nlog
-  pub logstart : get d 1044 4 ≡ 2
-  pub inodestart : get d 1048 4 ≡ s .inodestart
-  pub bmapstart : get d 1052 4 ≡ s .bmapstart

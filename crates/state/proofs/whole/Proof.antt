@@ -31,7 +31,7 @@ cast-buffered : tie.Need-cast-buffered
 cast-buffered c = search needs
 
 buffered-requires : tie.Need-buffered-requires
-buffered-requires c κs = (omega (arith, passed (c .before .before .before .before .before .before .before .before .before .good-counts .ensures) (c .before .before .before .before .before .before .before .before .if3 .left) .room), omega (arith, card-numbers _ _ (passed (c .before .before .before .before .before .before .before .before .before .before .before .on-card .ensures) (c .before .before .before .before .before .before .before .before .before .before .if2 .left)) .size-most))
+buffered-requires c κs = omega (arith, passed (c .before .before .before .before .before .before .before .before .before .good-counts .ensures) (c .before .before .before .before .before .before .before .before .if3 .left) .room)
 
 returns-5 : tie.Need-returns-5
 returns-5 c = not-so (λ g. denied (c .before .buffered .ensures) (c .if5 .taken) (g .buffered))
