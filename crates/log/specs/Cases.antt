@@ -1,8 +1,8 @@
 -- Document 01's marked case 10, at the level of blocks: committing the list 32, 35, 34, 36 on case 1's card takes 10 writes; 4 leave the old,
 -- 5 leave the new after recovery. Assumes nothing.
 use mathlib.Core.Path.{_≡_, refl}
-use mathlib.Core.List.{List, [], _∷_}
-use Prim.Native.Nat.{ℕ, zero, suc, _+_, _/_, _≤_, _<_}
+use mathlib.Core.List.{List}
+use Prim.Native.Nat.{ℕ, zero, suc, _≤_, _<_}
 use native.Mathlib.Omega.{arith}
 use Rattle.base.specs.Bytes.{Bytes}
 use Rattle.superblock.specs.declared.Super.{Super}

@@ -1,16 +1,16 @@
 -- The proof of the pulled card (statement: PulledCard.antt). `Leads s d e` says: the header on d is good, and installing what it says makes e
 -- of d outside the log. Every write of an installing keeps it, and so does every recovery, cut or not. Assumes nothing.
-use mathlib.Core.Path.{_≡_, refl, sym, _∙_, ap, subst, fun-ext}
+use mathlib.Core.Path.{_≡_, refl, sym, _∙_, ap}
 use mathlib.Core.Logic.{_⊎_, inl, inr, ⊎-elim}
-use mathlib.Core.Bool.{Bool, true, false, cond}
+use mathlib.Core.Bool.{cond}
 use mathlib.Core.List.{List, [], _∷_}
-use Prim.Native.Nat.{ℕ, zero, suc, _+_, _-_, _*_, _/_, _%_, _^_, _≤_, _<_, min}
+use Prim.Native.Nat.{ℕ, zero, suc, _+_, _-_, _*_, _%_, _≤_, _<_, min}
 use native.Mathlib.Omega.{arith}
 use native.Mathlib.Decide.{ℕ-discrete, decLt}
 use native.Mathlib.Nat.{add-zero, add-suc}
 use native.Mathlib.Numerals.{add-one}
 use borrow.Author.Tests.{lt-ltb, le-ltb, le-leb, lt-leb, eq-eqb, ne-eqb}
-use lib.Dec.{leb, ltb, eqb}
+use lib.Dec.{leb}
 use Rattle.base.specs.Bytes.{Bytes, block, putBlock}
 use Rattle.base.specs.Decide.{le-or-lt, lt-or-le}
 use Rattle.base.specs.Run.{run, run-none}
@@ -19,7 +19,7 @@ use Rattle.superblock.specs.Geometry.{Laid}
 use Rattle.log.specs.Words.{putWords, words-in, words-first, words-out, block-in, block-off}
 use Rattle.log.specs.Journal.{Tx, held, header, logBlock, words, homeWrite, emptied, installWrite, commitWrite, commitDue, recoverDue}
 use Rattle.log.specs.Journal.{commit, committed, logged, recover, recovered, recoveries, replaced, GoodLog, Outside, Settled, afterCrash, Ready}
-use Rattle.log.specs.PulledCard.{Survives, Saved, PulledCard}
+use Rattle.log.specs.PulledCard.{Saved, PulledCard}
 use Rattle.log.specs.Installing.{Same, homes-forget, homes-below, homes-same, homes-again, install-home, install-part, install-all, install-same, replaced-in, replaced-off}
 use Rattle.log.specs.Headers.{commit-due-none, commit-due-some, recover-due-none, recover-due-some, recover-due-most, words-suc, empty-count, emptied-off, log-count, log-same, good-same, good-none}
 

@@ -1,23 +1,23 @@
 -- Headers: what the log on a card says depends on its own bytes alone, and is good where what was read of it is good. The writes due.
 -- Assumes nothing.
 use mathlib.Core.Path.{_≡_, refl, sym, _∙_, ap, subst}
-use mathlib.Core.Bool.{Bool, true, false, cond}
+use mathlib.Core.Bool.{true, false}
 use mathlib.Core.Logic.{_⊎_, inl, inr, ⊎-elim}
-use Prim.Native.Nat.{ℕ, zero, suc, _+_, _-_, _*_, _≤_, _<_, min}
+use Prim.Native.Nat.{ℕ, _+_, _-_, _*_, _≤_, _<_}
 use native.Mathlib.Omega.{arith}
 use native.Mathlib.Decide.{ℕ-discrete}
 use native.Mathlib.Numerals.{add-one}
 use lib.Dec.{eqb}
 use borrow.Author.Tests.{eq-eqb, ne-eqb, eqb-true}
 use Rattle.base.specs.First.{first, first-before, first-holds}
-use Rattle.base.specs.Bytes.{Bytes, put, put-out, block, putBlock}
+use Rattle.base.specs.Bytes.{Bytes, put-out, putBlock}
 use Rattle.base.specs.Number.{get, digit, get-put, get-same-bytes}
-use Rattle.base.specs.Decide.{le-or-lt, lt-or-le}
+use Rattle.base.specs.Decide.{lt-or-le}
 use Rattle.base.specs.Run.{run, run-more}
 use Rattle.superblock.specs.declared.Super.{Super}
 use Rattle.superblock.specs.Geometry.{Laid}
-use Rattle.log.specs.Words.{putWords, block-same}
-use Rattle.log.specs.Journal.{Tx, held, header, logBlock, words, homeWrite, emptied, installWrite, commitWrite, logged, recoverDue, commitDue, GoodHomes, GoodLog, Outside, Within, Ready}
+use Rattle.log.specs.Words.{block-same}
+use Rattle.log.specs.Journal.{Tx, held, header, logBlock, words, homeWrite, emptied, installWrite, logged, recoverDue, commitDue, HomesIn, GoodLog, Outside, Within, Ready}
 use Rattle.log.specs.Installing.{Same, homes-below, install-home, install-last, install-part}
 
 -- the writes due
@@ -156,10 +156,10 @@ recover-turn d e h k image w b q r = go (lt-or-le k (t .count))
 
 -- a test of the homes one by one: what each answer has shown
 module _ (h : ℕ → ℕ) (low high i : ℕ) where
-  pub homes-start : GoodHomes h 0 low high
+  pub homes-start : HomesIn h 0 low high
   homes-start = record { from = λ j l. absurd (omega arith); below = λ j l. absurd (omega arith); distinct = λ j k l m e. absurd (omega arith) }
 
-  pub homes-more : GoodHomes h i low high → low ≤ h i → h i < high → i ≤ first (λ k. eqb (h k) (h i)) i → GoodHomes h (i + 1) low high
+  pub homes-more : HomesIn h i low high → low ≤ h i → h i < high → i ≤ first (λ k. eqb (h k) (h i)) i → HomesIn h (i + 1) low high
   homes-more g a b f =
       record {
         from = λ j l. elim (ℕ-discrete j i) [ yes z ↦ rw z a | no z ↦ g .from j (omega arith) ];
@@ -176,24 +176,24 @@ module _ (h : ℕ → ℕ) (low high i : ℕ) where
           let w : _≡_ {A = ℕ} 0 1 = cc in omega arith
 
   module _ (n : ℕ) (l : i < n) where
-    pub homes-low-not : h i < low → GoodHomes h n low high → ⊥
+    pub homes-low-not : h i < low → HomesIn h n low high → ⊥
     homes-low-not a g = omega (arith, g .from i l)
 
-    pub homes-high-not : high ≤ h i → GoodHomes h n low high → ⊥
+    pub homes-high-not : high ≤ h i → HomesIn h n low high → ⊥
     homes-high-not a g = omega (arith, g .below i l)
 
-    pub homes-twice-not : first (λ k. eqb (h k) (h i)) i < i → GoodHomes h n low high → ⊥
+    pub homes-twice-not : first (λ k. eqb (h k) (h i)) i < i → HomesIn h n low high → ⊥
     homes-twice-not f g =
         let e = eqb-true (h (first (λ k. eqb (h k) (h i)) i)) (h i) (first-holds (λ k. eqb (h k) (h i)) i f) in
         omega (arith, g .distinct (first (λ k. eqb (h k) (h i)) i) i (omega arith) l e)
 
 -- the header is good exactly where its length is and the homes that were read are
 module _ (s : Super) (d : Bytes) (n : ℕ) (h : ℕ → ℕ) (r : Read d n h) where
-  pub header-good : n ≤ 29 → n + 1 ≤ s .nlog → GoodHomes h n (s .inodestart) (s .size) → GoodLog s (logged d)
+  pub header-good : n ≤ 29 → n + 1 ≤ s .nlog → HomesIn h n (s .inodestart) (s .size) → GoodLog s (logged d)
   unfolding held
   header-good f m g = good-read s d n h r (record { few = f; room = m; high = g .from; low = g .below; distinct = g .distinct })
 
-  pub header-homes : GoodLog s (logged d) → GoodHomes h n (s .inodestart) (s .size)
+  pub header-homes : GoodLog s (logged d) → HomesIn h n (s .inodestart) (s .size)
   unfolding held
   header-homes g = let k = read-good s d n h r g in record { from = k .high; below = k .low; distinct = k .distinct }
 

@@ -7,7 +7,7 @@ use native.Mathlib.Omega.{arith}
 use native.Mathlib.Decide.{ℕ-discrete}
 use native.Mathlib.Numerals.{add-one}
 use borrow.Author.Tests.{lt-ltb, le-ltb}
-use Rattle.base.specs.Bytes.{Bytes, block, putBlock}
+use Rattle.base.specs.Bytes.{Bytes, putBlock}
 use Rattle.base.specs.Decide.{le-or-lt}
 use Rattle.base.specs.Run.{run}
 use Rattle.log.specs.Words.{block-in, block-off}

@@ -89,7 +89,7 @@ unfoldable pub replaced : Tx → Bytes → Bytes
 replaced t d = run (homeWrite t) (t .count) d
 
 -- n homes are distinct, from `low` on and below `high`
-pub record GoodHomes (homes : ℕ → ℕ) (n low high : ℕ) : Type 0 where
+pub record HomesIn (homes : ℕ → ℕ) (n low high : ℕ) : Type 0 where
   pub from : (i : ℕ) → i < n → low ≤ homes i
   pub below : (i : ℕ) → i < n → homes i < high
   pub distinct : (i j : ℕ) → i < n → j < n → homes i ≡ homes j → i ≡ j

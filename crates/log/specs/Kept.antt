@@ -2,14 +2,13 @@
 -- Assumes nothing.
 use mathlib.Core.Path.{_≡_, refl, sym, _∙_, ap}
 use mathlib.Core.Logic.{_⊎_, inl, inr}
-use Prim.Native.Nat.{ℕ, zero, suc, _+_, _-_, _*_, _/_, _≤_, _<_, min}
+use Prim.Native.Nat.{ℕ, zero, suc, _+_, _-_, _≤_, _<_}
 use native.Mathlib.Omega.{arith}
 use native.Mathlib.Decide.{ℕ-discrete, decLt}
 use Rattle.base.specs.Bytes.{Bytes, put-out, block, putBlock}
 use Rattle.base.specs.Number.{digit}
 use Rattle.base.specs.Decide.{lt-or-le}
 use Rattle.base.specs.Run.{run}
-use Rattle.superblock.specs.declared.Super.{Super}
 use Rattle.log.specs.Words.{words-out, block-off}
 use Rattle.log.specs.Journal.{Tx, held, header, logBlock, words, homeWrite, emptied, installWrite, commitWrite, commit, recover, logged}
 use Rattle.log.specs.Installing.{install-home, install-last}

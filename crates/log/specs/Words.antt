@@ -1,14 +1,13 @@
 -- Blocks, and numbers of four bytes in a row, over base's `put`: what a header is made of. Assumes nothing.
-use mathlib.Core.Path.{_≡_, refl, sym, _∙_, ap}
-use mathlib.Core.Logic.{_⊎_, inl, inr, ⊎-elim}
+use mathlib.Core.Path.{_≡_, refl, _∙_, ap}
 use mathlib.Core.List.{List}
-use Prim.Native.Nat.{ℕ, zero, suc, _+_, _-_, _*_, _/_, _%_, _^_, _≤_, _<_}
+use Prim.Native.Nat.{ℕ, _+_, _-_, _*_, _/_, _%_, _^_, _≤_, _<_}
 use native.Mathlib.Omega.{arith}
-use native.Mathlib.Decide.{ℕ-discrete, decLt}
+use native.Mathlib.Decide.{decLt}
 use lib.ListN.{getD, take, drop}
 use lib.Seq.{getD-take, getD-drop}
-use Rattle.base.specs.Bytes.{Bytes, put, put-in, put-out, put-at, put-none, put-same, put-more, is-put, block, putBlock}
-use Rattle.base.specs.Number.{get, digit, le, le-cong, le-digit, get-part}
+use Rattle.base.specs.Bytes.{Bytes, put, put-in, put-out, put-at, put-none, put-same, put-more, is-put, putBlock}
+use Rattle.base.specs.Number.{get, digit, le-cong, le-digit}
 
 -- m numbers of four bytes from address a on become w
 unfoldable pub putWords : Bytes → ℕ → ℕ → (ℕ → ℕ) → Bytes

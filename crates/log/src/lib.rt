@@ -10,7 +10,7 @@ ghost use Rattle.base.specs.Number.{get as numAt};
 ghost use Rattle.base.specs.Decide.{Decides};
 ghost use Rattle.log.specs.Words.{putWords};
 ghost use Rattle.log.specs.Journal.{header, logBlock, words, held, commitWrite, commit as committing, commitDue, Ready};
-ghost use Rattle.log.specs.Journal.{GoodHomes, GoodLog, logged, installWrite, recover as recovering, recoverDue, Within};
+ghost use Rattle.log.specs.Journal.{HomesIn, GoodLog, logged, installWrite, recover as recovering, recoverDue, Within};
 use superblock::Super;
 
 // The block copier.
@@ -197,7 +197,7 @@ pub fn recover(image: &mut [u8], writes: usize) -> usize
 // Whether the first n homes are distinct, and from `low` on and below `high`.
 pub fn good_homes(homes: &[u32; 30], n: usize, low: u32, high: u32) -> bool
     requires { ⌜ n ≤ 29 ⌝ }
-    ensures { λ r. ⌜ Decides r (GoodHomes (bytes (now (homes .entry))) n low high) ⌝ }
+    ensures { λ r. ⌜ Decides r (HomesIn (bytes (now (homes .entry))) n low high) ⌝ }
 {
     let mut i = 0;
     while i < n {

@@ -1,18 +1,17 @@
 -- The states that mount, begin and end leave are whole: what a mount or a commit that finished gives, and an operation more or less open.
 -- Assumes nothing.
-use mathlib.Core.Path.{_≡_, refl, sym, ap, _∙_}
+use mathlib.Core.Path.{_≡_, refl, sym, _∙_}
 use mathlib.Core.List.{List}
-use Prim.Native.Nat.{ℕ, _+_, _-_, _*_, _≤_, _<_, min}
+use Prim.Native.Nat.{ℕ, _+_, _-_, _<_}
 use native.Mathlib.Omega.{arith}
 use lib.ListN.{length, getD}
-use Rattle.base.specs.Bytes.{Bytes, bytes}
+use Rattle.base.specs.Bytes.{bytes}
 use Rattle.base.specs.First.{tabulate, getD-tabulate, length-tabulate}
-use Rattle.superblock.specs.declared.Super.{Super}
-use Rattle.superblock.specs.Geometry.{Good, GoodNumbers, superOf}
-use Rattle.bio.specs.Among.{among, among-yes, distinct-none, Distinct}
+use Rattle.superblock.specs.Geometry.{Good, superOf}
+use Rattle.bio.specs.Among.{among-yes, distinct-none}
 use Rattle.bio.specs.Fresh.{freshTable, none}
 use Rattle.state.specs.declared.Volume.{Volume}
-use Rattle.state.specs.Whole.{Whole, Lengths}
+use Rattle.state.specs.Whole.{Whole}
 use Rattle.transactions.specs.Calls.{idle, zeros, withOps, ended, IsBusy}
 use Rattle.transactions.specs.Kept.{super-same, good-kept}
 

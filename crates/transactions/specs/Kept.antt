@@ -1,13 +1,12 @@
 -- A commit and a recovery, cut or not, leave a card its superblock. Assumes nothing.
-use mathlib.Core.Path.{_≡_, refl, sym, ap, _∙_}
+use mathlib.Core.Path.{_≡_, sym, ap, _∙_}
 use mathlib.Core.List.{List}
 use Prim.Native.Nat.{ℕ, _+_, _*_, _≤_, _<_}
 use native.Mathlib.Omega.{arith}
 use lib.ListN.{length}
-use Rattle.base.specs.Bytes.{Bytes, bytes}
+use Rattle.base.specs.Bytes.{bytes}
 use Rattle.base.specs.Number.{get, get-same-bytes}
-use Rattle.superblock.specs.declared.Super.{Super}
-use Rattle.superblock.specs.Geometry.{Good, GoodNumbers, superOf}
+use Rattle.superblock.specs.Geometry.{Good, superOf}
 
 -- the same bytes before the log: the same superblock
 module _ (image image' : List ℕ) (long : length image' ≡ length image) (same : (x : ℕ) → x < 2048 → bytes image' x ≡ bytes image x) where

@@ -1,7 +1,7 @@
 -- What follows from the contracts of mount, begin and end: the states that they leave are whole, a state that was cut is not, a finished end
 -- leaves on the card what was seen, and each contract fixes its answer, the state and the image. Assumes nothing.
 use mathlib.Core.Path.{_≡_, refl, sym, ap, _∙_}
-use mathlib.Core.Logic.{_⊎_, inl, inr, ⊎-elim}
+use mathlib.Core.Logic.{_⊎_, inl, inr}
 use mathlib.Core.List.{List}
 use Prim.Native.Nat.{ℕ, _+_, _-_, _*_, _≤_, _<_}
 use native.Mathlib.Omega.{arith}
@@ -9,21 +9,24 @@ use lib.ListN.{length, getD}
 use lib.Seq.{ext-getD}
 use Rattle.base.specs.Bytes.{Bytes, bytes}
 use Rattle.base.specs.Decide.{lt-or-le}
-use Rattle.base.specs.First.{tabulate, getD-tabulate}
+use Rattle.base.specs.First.{first, tabulate, getD-tabulate}
 use Rattle.base.specs.Refusals.{number}
 use Rattle.base.specs.Rows.{gives-one}
 use Rattle.base.specs.declared.Refusal.{Refusal}
 use Rattle.base.specs.declared.Refusal.the-variants.{NotWhole, BadCall, NoTransaction, BadHandle, Unfit, NotDirectory, NoName, WrongKind, PastEnd, TooLarge, NoSlot, NoInode, NoBlock, NoLogRoom, Busy, NoBuffer, BadSuper, BadLog}
+use Rattle.superblock.specs.declared.Super.{Super}
+use Rattle.bio.specs.Fresh.{freshTable}
+use Rattle.bio.specs.Order.{leastRecent, freeAt}
 use Rattle.bio.specs.Seen.{bufferOf, buffer-none, seen, seen-in, seen-out, by-block}
-use Rattle.log.specs.Journal.{held, Outside, Settled, logged, recoverDue, commit, commitDue, committed}
-use Rattle.log.specs.Crash.{commit-done, commit-holds, commit-enough}
+use Rattle.log.specs.Journal.{held, Outside, logged, recoverDue, commitDue}
+use Rattle.log.specs.Crash.{commit-holds, commit-enough}
 use Rattle.state.specs.declared.Volume.{Volume}
 use Rattle.state.specs.Whole.{Whole}
 use Rattle.transactions.specs.declared.Answer.{Answer}
 use Rattle.transactions.specs.declared.Answer.the-variants.{Done, Cut, Refused}
 use Rattle.transactions.specs.declared.After.{After}
-use Rattle.transactions.specs.Calls.{Left, paper, refused, noVolume, idle, mounted, stopped, ended, withOps, zeros, recordedTx, mountRows, beginRows, endRows}
-use Rattle.transactions.specs.Calls.{Recovered, Begun, Committed, Closed, Ended, MountGives, BeginGives, EndGives}
+use Rattle.transactions.specs.Calls.{Left, paper, refused, noVolume, idle, mounted, stopped, zeros, recordedTx, mountRows, beginRows}
+use Rattle.transactions.specs.Calls.{Recovered, Begun, Committed, MountGives, BeginGives, EndGives}
 use Rattle.transactions.specs.Recorded.{numbers, recorded-good, buffer-below}
 use Rattle.transactions.specs.Afterwards.{more-whole, less-whole, ended-whole}
 use Rattle.transactions.specs.Survive.{replaced-seen, commit-super}
@@ -95,6 +98,11 @@ end-whole v image cache writes l (inr (a, inr (b, inr (c, r)))) z = go (lt-or-le
     go : (1 < v .ops) ⊎ (v .ops ≤ 1) → Whole (l .0 .volume) (l .1)
     go (inl k) = rw (r .more k .volume, r .more k .same) (less-whole v image (r .was) k)
     go (inr k) = committed-whole v image (bytes cache) writes l (r .was) (r .last (omega (arith, c))) z
+
+-- the first buffer taken on a volume that was mounted is 29
+pub mount-first : (s : Super) → leastRecent (mounted s .table .order) (mounted s .table .counts) ≡ 29
+unfolding idle freshTable tabulate leastRecent freeAt first
+mount-first s = refl
 
 -- ---- a finished commit: outside the log the card holds what was seen, and the buffers that were recorded hold what the card holds
 

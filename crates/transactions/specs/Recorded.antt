@@ -1,17 +1,17 @@
 -- What a whole state records is good to commit: its homes are a good header, and its buffers and homes lie in the cache and the image.
 -- Assumes nothing.
-use mathlib.Core.Path.{_≡_, refl, sym, ap, _∙_}
+use mathlib.Core.Path.{_≡_, sym, ap, _∙_}
 use mathlib.Core.List.{List}
-use Prim.Native.Nat.{ℕ, _+_, _-_, _*_, _/_, _≤_, _<_, min}
+use Prim.Native.Nat.{ℕ, _-_, _*_, _<_}
 use native.Mathlib.Omega.{arith}
 use lib.ListN.{length, getD}
 use Rattle.base.specs.Bytes.{Bytes, bytes}
 use Rattle.superblock.specs.declared.Super.{Super}
-use Rattle.superblock.specs.Geometry.{Good, GoodNumbers, Laid, superOf}
+use Rattle.superblock.specs.Geometry.{GoodNumbers}
 use Rattle.bio.specs.Seen.{bufferOf, held-below}
-use Rattle.log.specs.Journal.{Tx, held, GoodLog, Ready}
+use Rattle.log.specs.Journal.{held, GoodLog, Ready}
 use Rattle.state.specs.declared.Volume.{Volume}
-use Rattle.state.specs.Whole.{Whole, Pinned}
+use Rattle.state.specs.Whole.{Whole}
 use Rattle.transactions.specs.Calls.{recordedTx}
 
 module _ (v : Volume) (image : List ℕ) (w : Whole v image) where

@@ -1,30 +1,30 @@
 -- The proof of PulledCalls.antt: the log's theorem, carried along the calls. A finished end leaves what was seen, in a whole state.
 -- Assumes nothing.
 use mathlib.Core.Path.{_≡_, refl, sym, ap, _∙_, subst}
-use mathlib.Core.Logic.{_⊎_, inl, inr, ⊎-elim, _≢_}
+use mathlib.Core.Logic.{_⊎_, inl, inr, ⊎-elim}
 use mathlib.Core.Bool.{Bool, true, false}
-use mathlib.Core.List.{List, [], _∷_}
-use Prim.Native.Nat.{ℕ, _+_, _-_, _*_, _/_, _≤_, _<_, min}
+use mathlib.Core.List.{List}
+use Prim.Native.Nat.{ℕ, _+_, _-_, _*_, _/_, _≤_, _<_}
 use native.Mathlib.Omega.{arith}
 use lib.ListN.{length, getD}
 use Rattle.base.specs.Bytes.{Bytes, bytes}
 use Rattle.base.specs.Decide.{le-or-lt, lt-or-le}
 use Rattle.superblock.specs.declared.Super.{Super}
-use Rattle.superblock.specs.Geometry.{Good, GoodNumbers, Laid, superOf}
+use Rattle.superblock.specs.Geometry.{Good, Laid, superOf}
 use Rattle.bio.specs.Among.{among, among-where, among-no}
 use Rattle.bio.specs.Seen.{bufferOf, seen, seen-in, seen-out, buffer-none, by-block}
-use Rattle.log.specs.Journal.{Tx, held, GoodLog, Outside, Settled, logged, recover, recovered, recoverDue, commit, committed, commitDue, replaced}
+use Rattle.log.specs.Journal.{held, GoodLog, Settled, logged, recover, recoverDue, commit, replaced}
 use Rattle.log.specs.Installing.{replaced-in, replaced-off}
 use Rattle.log.specs.Headers.{recover-due-most}
-use Rattle.log.specs.Crash.{Leads, recover-leads, recovered-done, commit-keeps, commit-turns, commit-done, recover-enough, commit-enough}
+use Rattle.log.specs.Crash.{Leads, recover-leads, recovered-done, commit-keeps, commit-turns, recover-enough}
 use Rattle.log.specs.Kept.{commit-below, recover-below}
 use Rattle.state.specs.declared.Volume.{Volume}
 use Rattle.state.specs.Whole.{Whole}
-use Rattle.transactions.specs.Calls.{Left, paper, EndGives, MountGives, Recovered, Ended, Committed, recordedTx, mounted, ended}
+use Rattle.transactions.specs.Calls.{Left, paper, EndGives, MountGives, Recovered, Committed, recordedTx, mounted}
 use Rattle.transactions.specs.Kept.{super-same, good-kept}
 use Rattle.transactions.specs.Recorded.{numbers, recorded-good, buffer-below}
-use Rattle.transactions.specs.Afterwards.{idle-whole, ended-whole}
-use Rattle.transactions.specs.PulledCalls.{Mounts, none, next, Afresh, Outcome, CallsSurvive}
+use Rattle.transactions.specs.Afterwards.{idle-whole}
+use Rattle.transactions.specs.PulledCalls.{Mounts, none, next, Outcome, CallsSurvive}
 
 module _ (v : Volume) (image : List ℕ) (w : Whole v image) (cache : Bytes) where
   -- the homes replaced by what is recorded is what is seen

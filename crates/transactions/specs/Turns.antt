@@ -1,23 +1,22 @@
 -- A law for each answer of the calls, over plain values: what a test and the callees have shown is what the contract says. Assumes nothing.
-use mathlib.Core.Path.{_≡_, refl, sym, ap, _∙_}
+use mathlib.Core.Path.{_≡_, refl, ap, _∙_}
 use mathlib.Core.List.{List}
-use Prim.Native.Nat.{ℕ, _+_, _-_, _*_, _≤_, _<_, min}
+use Prim.Native.Nat.{ℕ, _-_, _≤_, _<_, min}
 use native.Mathlib.Omega.{arith}
 use lib.ListN.{length, getD}
 use Rattle.base.specs.Bytes.{Bytes, bytes}
 use Rattle.superblock.specs.declared.Super.{Super}
 use Rattle.superblock.specs.Geometry.{Good, superOf}
 use Rattle.bio.specs.Seen.{bufferOf}
-use Rattle.log.specs.Journal.{Tx, held, GoodLog, Within, logged, recover, recoverDue, commit, commitDue}
+use Rattle.log.specs.Journal.{held, GoodLog, Within, logged, recover, recoverDue, commit, commitDue}
 use Rattle.log.specs.Headers.{good-within}
 use Rattle.log.specs.Kept.{commit-same}
 use Rattle.state.specs.declared.Volume.{Volume}
 use Rattle.state.specs.Whole.{Whole}
-use Rattle.transactions.specs.declared.Answer.{Answer}
-use Rattle.transactions.specs.declared.Answer.the-variants.{Done, Cut, Refused}
+use Rattle.transactions.specs.declared.Answer.the-variants.{Done, Cut}
 use Rattle.base.specs.declared.Refusal.{Refusal}
 use Rattle.transactions.specs.declared.After.{After}
-use Rattle.transactions.specs.Calls.{Left, paper, refused, noVolume, mounted, stopped, ended, recordedTx, Recovered, Committed, Ended, withOps}
+use Rattle.transactions.specs.Calls.{Left, refused, noVolume, mounted, stopped, ended, recordedTx, Recovered, Committed, Ended, withOps}
 
 -- a recovery
 module _ (image : List ℕ) (sb : Super) (g : Good image) (same : sb ≡ superOf (bytes image)) (h : GoodLog sb (logged (bytes image))) where

@@ -5,14 +5,14 @@ use native.Mathlib.Omega.{arith}
 use denote.Ref.{now}
 use Rattle.base.specs.Bytes.{bytes}
 use Rattle.base.specs.Decide.{so, not-so}
-use Rattle.log.specs.Journal.{GoodHomes}
+use Rattle.log.specs.Journal.{HomesIn}
 use Rattle.log.specs.Headers.{homes-start, homes-more, homes-low-not, homes-high-not, homes-twice-not}
 use borrow.Author.Needs.{needs}
 use Rattle.log.proofs.good_homes.Statement.{statement}
 use Rattle.log.proofs.good_homes.Tie as tie
 
 abbrev Inv-loop : tie.InvT-loop
-Inv-loop homes n low high i₀ i = (i ≤ n) × GoodHomes (bytes homes) i low high
+Inv-loop homes n low high i₀ i = (i ≤ n) × HomesIn (bytes homes) i low high
 
 abbrev μ-loop : tie.MeasureT-loop
 μ-loop homes n low high i₀ i = n - i
