@@ -1,8 +1,8 @@
 -- close: document 01's rows 1 and 4, and the state with a reference less. Assumes nothing.
-use mathlib.Core.Path.{_≡_, refl, sym, ap, _∙_}
-use mathlib.Core.Logic.{_⊎_, inl, inr}
+use mathlib.Core.Path.{_≡_}
+use mathlib.Core.Logic.{inl, inr}
 use mathlib.Core.List.{List, [], _∷_}
-use Prim.Native.Nat.{ℕ, _-_, _≤_, _<_}
+use Prim.Native.Nat.{ℕ, _-_}
 use lib.ListN.{getD, set}
 use Rattle.base.specs.Rows.{Row, row}
 use Rattle.base.specs.Refusals.{number}
@@ -33,7 +33,7 @@ closeRows v image h =
     ∷ row 4 (GoodHandle (v .slots .inums) (v .slots .refs) h → ⊥)
     ∷ []
 
--- the volume with n references on slot k, for the inodes `inums`
+-- the volume with these slots
 abbrev pub withSlots : Volume → List ℕ → List ℕ → Volume
 withSlots v inums refs = record {
   sb = v .sb;

@@ -1,31 +1,29 @@
 -- Where open answers, and that the state that it leaves is whole. Assumes nothing.
 use mathlib.Core.Path.{_≡_, refl, sym, ap, _∙_}
-use mathlib.Core.Bool.{Bool, true, false, cond, not}
-use mathlib.Core.Logic.{_≢_, _⊎_, inl, inr}
-use mathlib.Core.List.{List, [], _∷_}
+use mathlib.Core.Bool.{Bool, true, not}
+use mathlib.Core.Logic.{_⊎_, inl, inr}
+use mathlib.Core.List.{List}
 use Prim.Native.Nat.{ℕ, _+_, _≤_, _<_}
 use native.Mathlib.Omega.{arith}
 use native.Mathlib.Decide.{ℕ-discrete, decLt}
 use lib.ListN.{getD, length, set}
-use lib.Dec.{eqb}
 use borrow.Author.Tests.{eq-eqb, ne-eqb}
 use Rattle.base.specs.Bytes.{bytes}
 use Rattle.base.specs.Decide.{Decides, so, alike}
 use Rattle.base.specs.declared.Refusal.{Refusal}
-use Rattle.base.specs.declared.Refusal.the-variants.{Unfit, NotDirectory, NoName, NoSlot}
-use Rattle.superblock.specs.declared.Super.{Super}
+use Rattle.base.specs.declared.Refusal.the-variants.{NoSlot}
 use Rattle.path.specs.Parts.{pathLen}
 use Rattle.walk.specs.Step.{From}
 use Rattle.walk.specs.Walks.{walkOf}
 use Rattle.walk.specs.Reached.{OfWalk, unfit, not-directory, no-name, walk-reached, walk-only}
 use Rattle.walk.specs.declared.Walk.{Walk}
 use Rattle.walk.specs.declared.Walk.the-variants.{Reached, Refused as Stopped}
-use Rattle.state.specs.Whole.{Whole, GoodSlots}
+use Rattle.state.specs.Whole.{Whole}
 use Rattle.state.specs.declared.Volume.{Volume}
 use Rattle.state.specs.declared.Handle.{Handle}
-use Rattle.slots.specs.Handles.{GoodHandle, Room, slotFor}
+use Rattle.slots.specs.Handles.{GoodHandle, Room}
 use Rattle.slots.specs.Keeps.{good-more}
-use Rattle.volume.specs.Answers.{Said, done, instead, Left, diskOf}
+use Rattle.volume.specs.Answers.{done, instead, Left, diskOf}
 use Rattle.volume.specs.Close.{withSlots, slots-whole}
 use Rattle.volume.specs.Inside.{numbers, handle-from}
 use Rattle.volume.specs.Open.{Starts, rooted, handled, origin, walked, reached, slotIn, opened, openTo, OpenGives, openLeft, notOpened}
