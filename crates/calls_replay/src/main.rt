@@ -178,7 +178,15 @@ fn put_hex(image: &mut [u8], a: usize, w: &[u8]) {
     let n = base::smaller(w.len() / 2, 512);
     let mut i: usize = 0;
     while i < n {
-        put_byte(image, a, i, hex_byte(base::get_past(w, i, i), base::get_past(base::from(w, 1), i, i)));
+        put_byte(
+            image,
+            a,
+            i,
+            hex_byte(
+                base::get_past(w, i, i),
+                base::get_past(base::from(w, 1), i, i),
+            ),
+        );
         i += 1;
     }
 }
@@ -187,7 +195,12 @@ fn put_hex(image: &mut [u8], a: usize, w: &[u8]) {
 fn put_pattern(image: &mut [u8], a: usize, s: usize, n: usize) {
     let mut i: usize = 0;
     while i < n {
-        put_byte(image, a, i, ((31 * (s % 256) + 7 * (i % 256) + i / 256) % 256) as u8);
+        put_byte(
+            image,
+            a,
+            i,
+            ((31 * (s % 256) + 7 * (i % 256) + i / 256) % 256) as u8,
+        );
         i += 1;
     }
 }
@@ -204,7 +217,11 @@ fn put_data(image: &mut [u8], a: usize, w: &[u8]) {
 
 // poke BLOCK OFFSET DATA
 fn poke(image: &mut [u8], line: &[u8]) {
-    put_data(image, num(line, 1) * 1024 + num(line, 2), word(line, 3, b' '));
+    put_data(
+        image,
+        num(line, 1) * 1024 + num(line, 2),
+        word(line, 3, b' '),
+    );
     say(b"ok\n");
 }
 
@@ -252,7 +269,12 @@ fn fresh(image: &[u8], live: u32) -> Session {
 
 // mkfs SIZE NINODES NLOG
 fn mkfs(image: &mut [u8], line: &[u8]) {
-    match format::format(image, base::small(num(line, 1)), base::small(num(line, 2)), base::small(num(line, 3))) {
+    match format::format(
+        image,
+        base::small(num(line, 1)),
+        base::small(num(line, 2)),
+        base::small(num(line, 3)),
+    ) {
         format::Answer::Done => {
             let s = superblock::super_of(image);
             say(b"ok inodestart ");

@@ -1,17 +1,10 @@
+-- `calls_replay::put_hex` is safe and ends. Assumes nothing.
 use mathlib.Core.Path.{_≡_}
-use Prim.Native.Nat.{ℕ, _+_, _-_, _≤_, _<_}
-use native.Mathlib.Omega.{arith}
+use Prim.Native.Nat.{_-_, _≤_}
 use lib.ListN.{length}
 use borrow.Author.Needs.{needs}
 use Rattle.calls_replay.proofs.put_hex.Statement.{statement}
 use Rattle.calls_replay.proofs.put_hex.Tie as tie
-use Rattle.calls_replay.proofs.put_hex.Reads as reads
-use Rattle.calls_replay.proofs.put_hex.Lts as lts
-use Rattle.base.proofs.from.Reads as from-reads
-use Rattle.base.proofs.get_past.Reads as get-past-reads
-use Rattle.base.proofs.smaller.Reads as smaller-reads
-use Rattle.calls_replay.proofs.hex_byte.Reads as hex-byte-reads
-use Rattle.calls_replay.proofs.put_byte.Reads as put-byte-reads
 
 abbrev Inv-loop : tie.InvT-loop
 Inv-loop image₀ a w n i₀ image i = (i ≤ n) × (length image ≡ length image₀)
@@ -19,51 +12,39 @@ Inv-loop image₀ a w n i₀ image i = (i ≤ n) × (length image ≡ length ima
 abbrev μ-loop : tie.MeasureT-loop
 μ-loop image₀ a w n i₀ image i = n - i
 
--- src/main.rt:178:9
 smaller-requires : tie.Need-smaller-requires Inv-loop μ-loop
 smaller-requires c κs = search needs
 
--- src/main.rt:180:5
 loop-holds : tie.Need-loop-holds Inv-loop μ-loop
 loop-holds c = search needs
 
--- src/main.rt:181:40
 get-past-requires : tie.Need-get-past-requires Inv-loop μ-loop
 get-past-requires c κs = search needs
 
--- src/main.rt:181:80
 from-requires : tie.Need-from-requires Inv-loop μ-loop
 from-requires c κs = search needs
 
--- src/main.rt:181:65
 get-past-requires-2 : tie.Need-get-past-requires-2 Inv-loop μ-loop
 get-past-requires-2 c κs = search needs
 
--- src/main.rt:181:31
 hex-byte-requires : tie.Need-hex-byte-requires Inv-loop μ-loop
 hex-byte-requires c κs = search needs
 
--- src/main.rt:181:9
 put-byte-requires : tie.Need-put-byte-requires Inv-loop μ-loop
 put-byte-requires c κs = search needs
 
--- src/main.rt:182:9
 add-i : tie.Need-add-i Inv-loop μ-loop
 add-i c = search needs
 
--- src/main.rt:180:5
 loop-less : tie.Need-loop-less Inv-loop μ-loop
 loop-less c = search needs
 
--- src/main.rt:180:5
 loop-again : tie.Need-loop-again Inv-loop μ-loop
 loop-again c = search needs
 
--- src/main.rt:177:1
 same-length : tie.Need-same-length Inv-loop μ-loop
 same-length c = search needs
 
--- src/main.rt:177:1
 returns : tie.Need-returns Inv-loop μ-loop
 returns c = search needs
 

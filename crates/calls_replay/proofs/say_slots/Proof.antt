@@ -1,14 +1,8 @@
-use Prim.Native.Nat.{ℕ, _+_, _-_, _≤_, _<_}
-use native.Mathlib.Omega.{arith}
-use lib.ListN.{length}
+-- `calls_replay::say_slots` is safe and ends. Assumes nothing.
+use Prim.Native.Nat.{_-_, _≤_}
 use borrow.Author.Needs.{needs}
 use Rattle.calls_replay.proofs.say_slots.Statement.{statement}
 use Rattle.calls_replay.proofs.say_slots.Tie as tie
-use Rattle.calls_replay.proofs.say_slots.Reads as reads
-use Rattle.calls_replay.proofs.say_slots.Lts as lts
-use Rattle.base.proofs.place.Reads as place-reads
-use Rattle.calls_replay.proofs.say.Reads as say-reads
-use Rattle.calls_replay.proofs.say_number.Reads as say-number-reads
 
 abbrev Inv-loop : tie.InvT-loop
 Inv-loop inums refs none₀ k₀ t6 t7 t8 t9 t10 none k = k ≤ 50
@@ -16,115 +10,87 @@ Inv-loop inums refs none₀ k₀ t6 t7 t8 t9 t10 none k = k ≤ 50
 abbrev μ-loop : tie.MeasureT-loop
 μ-loop inums refs none₀ k₀ t6 t7 t8 t9 t10 none k = 50 - k
 
--- src/main.rt:423:9
 slice-aggregate-say : tie.Need-slice-aggregate-say Inv-loop μ-loop
 slice-aggregate-say c = search needs
 
--- src/main.rt:423:5
 say-requires : tie.Need-say-requires Inv-loop μ-loop
 say-requires c κs = search needs
 
--- src/main.rt:426:5
 loop-holds : tie.Need-loop-holds Inv-loop μ-loop
 loop-holds c = search needs
 
--- src/main.rt:427:12
 mul-if1 : tie.Need-mul-if1 Inv-loop μ-loop
 mul-if1 c = search needs
 
--- src/main.rt:427:12
 element-copy-out-if1 : tie.Need-element-copy-out-if1 Inv-loop μ-loop
 element-copy-out-if1 c = search needs
 
--- src/main.rt:429:17
 slice-aggregate-say-2 : tie.Need-slice-aggregate-say-2 Inv-loop μ-loop
 slice-aggregate-say-2 c = search needs
 
--- src/main.rt:429:13
 say-requires-2 : tie.Need-say-requires-2 Inv-loop μ-loop
 say-requires-2 c κs = search needs
 
--- src/main.rt:430:13
 say-number-requires : tie.Need-say-number-requires Inv-loop μ-loop
 say-number-requires c κs = search needs
 
--- src/main.rt:431:17
 slice-aggregate-say-3 : tie.Need-slice-aggregate-say-3 Inv-loop μ-loop
 slice-aggregate-say-3 c = search needs
 
--- src/main.rt:431:13
 say-requires-3 : tie.Need-say-requires-3 Inv-loop μ-loop
 say-requires-3 c κs = search needs
 
--- src/main.rt:432:36
 mul-place : tie.Need-mul-place Inv-loop μ-loop
 mul-place c = search needs
 
--- src/main.rt:432:36
 element-copy-out-place : tie.Need-element-copy-out-place Inv-loop μ-loop
 element-copy-out-place c = search needs
 
--- src/main.rt:432:24
 place-requires : tie.Need-place-requires Inv-loop μ-loop
 place-requires c κs = search needs
 
--- src/main.rt:432:13
 say-number-requires-2 : tie.Need-say-number-requires-2 Inv-loop μ-loop
 say-number-requires-2 c κs = search needs
 
--- src/main.rt:433:17
 slice-aggregate-say-4 : tie.Need-slice-aggregate-say-4 Inv-loop μ-loop
 slice-aggregate-say-4 c = search needs
 
--- src/main.rt:433:13
 say-requires-4 : tie.Need-say-requires-4 Inv-loop μ-loop
 say-requires-4 c κs = search needs
 
--- src/main.rt:434:36
 mul-place-2 : tie.Need-mul-place-2 Inv-loop μ-loop
 mul-place-2 c = search needs
 
--- src/main.rt:434:36
 element-copy-out-place-2 : tie.Need-element-copy-out-place-2 Inv-loop μ-loop
 element-copy-out-place-2 c = search needs
 
--- src/main.rt:434:24
 place-requires-2 : tie.Need-place-requires-2 Inv-loop μ-loop
 place-requires-2 c κs = search needs
 
--- src/main.rt:434:13
 say-number-requires-3 : tie.Need-say-number-requires-3 Inv-loop μ-loop
 say-number-requires-3 c κs = search needs
 
--- src/main.rt:436:9
 add-k : tie.Need-add-k Inv-loop μ-loop
 add-k c = search needs
 
--- src/main.rt:426:5
 loop-less : tie.Need-loop-less Inv-loop μ-loop
 loop-less c = search needs
 
--- src/main.rt:426:5
 loop-again : tie.Need-loop-again Inv-loop μ-loop
 loop-again c = search needs
 
--- src/main.rt:439:13
 slice-aggregate-say-5 : tie.Need-slice-aggregate-say-5 Inv-loop μ-loop
 slice-aggregate-say-5 c = search needs
 
--- src/main.rt:439:9
 say-requires-5 : tie.Need-say-requires-5 Inv-loop μ-loop
 say-requires-5 c κs = search needs
 
--- src/main.rt:441:9
 slice-aggregate-say-6 : tie.Need-slice-aggregate-say-6 Inv-loop μ-loop
 slice-aggregate-say-6 c = search needs
 
--- src/main.rt:441:5
 say-requires-6 : tie.Need-say-requires-6 Inv-loop μ-loop
 say-requires-6 c κs = search needs
 
--- src/main.rt:422:1
 returns : tie.Need-returns Inv-loop μ-loop
 returns c = search needs
 

@@ -1,11 +1,9 @@
-use Prim.Native.Nat.{ℕ, _+_, _-_, _≤_, _<_}
-use native.Mathlib.Omega.{arith}
+-- `calls_replay::word_end` is safe and ends. Assumes nothing.
+use Prim.Native.Nat.{_-_, _≤_}
 use lib.ListN.{length}
 use borrow.Author.Needs.{needs}
 use Rattle.calls_replay.proofs.word_end.Statement.{statement}
 use Rattle.calls_replay.proofs.word_end.Tie as tie
-use Rattle.calls_replay.proofs.word_end.Reads as reads
-use Rattle.calls_replay.proofs.word_end.Lts as lts
 
 abbrev Inv-loop : tie.InvT-loop
 Inv-loop line start sep i₀ i = (start ≤ i) × (i ≤ length line)
@@ -13,31 +11,24 @@ Inv-loop line start sep i₀ i = (start ≤ i) × (i ≤ length line)
 abbrev μ-loop : tie.MeasureT-loop
 μ-loop line start sep i₀ i = length line - i
 
--- src/main.rt:53:5
 loop-holds : tie.Need-loop-holds Inv-loop μ-loop
 loop-holds c = search needs
 
--- src/main.rt:54:12
 shared-slice-read-if1 : tie.Need-shared-slice-read-if1 Inv-loop μ-loop
 shared-slice-read-if1 c = search needs
 
--- src/main.rt:55:13
 returns : tie.Need-returns Inv-loop μ-loop
 returns c = search needs
 
--- src/main.rt:57:9
 add-i : tie.Need-add-i Inv-loop μ-loop
 add-i c = search needs
 
--- src/main.rt:53:5
 loop-less : tie.Need-loop-less Inv-loop μ-loop
 loop-less c = search needs
 
--- src/main.rt:53:5
 loop-again : tie.Need-loop-again Inv-loop μ-loop
 loop-again c = search needs
 
--- src/main.rt:48:1
 returns-2 : tie.Need-returns-2 Inv-loop μ-loop
 returns-2 c = search needs
 
