@@ -1,9 +1,9 @@
 -- "Every held number distinct" (document 01, "Write and truncate also need"), and how a pass with a mark for each block decides it.
 -- Assumes nothing.
-use mathlib.Core.Path.{_≡_, refl, sym, ap, _∙_}
-use mathlib.Core.Bool.{Bool, true, false, cond}
+use mathlib.Core.Path.{_≡_, sym, ap, _∙_}
+use mathlib.Core.Bool.{Bool, false, cond}
 use mathlib.Core.List.{List}
-use Prim.Native.Nat.{ℕ, zero, suc, _+_, _-_, _*_, _/_, _%_, _≤_, _<_, min}
+use Prim.Native.Nat.{ℕ, _+_, _-_, _*_, _≤_, _<_}
 use native.Mathlib.Omega.{arith}
 use native.Mathlib.Decide.{ℕ-discrete, decLt}
 use lib.ListN.{getD, length, set, replicate, length-replicate, getD-replicate, List·getD-eq-default}
@@ -12,7 +12,7 @@ use lib.Dec.{ltb}
 use borrow.Author.Tests.{lt-ltb, le-ltb}
 use Rattle.base.specs.Bytes.{Bytes, bytes}
 use Rattle.base.specs.Number.{get, get-moved}
-use Rattle.base.specs.Decide.{Decides, so, not-so, alike}
+use Rattle.base.specs.Decide.{Decides, not-so, alike}
 use Rattle.superblock.specs.declared.Super.{Super}
 use Rattle.superblock.specs.declared.Inode.{Inode}
 use Rattle.superblock.specs.Geometry.{GoodNumbers}

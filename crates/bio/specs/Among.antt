@@ -7,8 +7,8 @@ use native.Mathlib.Omega.{arith}
 use native.Mathlib.Decide.{ℕ-discrete, decLt}
 use lib.ListN.{getD}
 use lib.Dec.{eqb, ltb}
-use borrow.Author.Tests.{eq-eqb, eqb-true, lt-ltb, ltb-true}
-use Rattle.base.specs.First.{first, first-before, first-holds}
+use borrow.Author.Tests.{eq-eqb, eqb-true, lt-ltb, le-ltb, ltb-true, ltb-false}
+use Rattle.base.specs.First.{first, first-le, first-before, first-holds}
 
 -- b is one of the first n
 unfoldable pub among : List ℕ → ℕ → ℕ → Bool
@@ -38,6 +38,16 @@ module _ (l : List ℕ) (n b : ℕ) where
       go : (t : Bool) → among l n b ≡ t → t ≡ false
       go true e = absurd (let w = among-where e in h (w .0) (w .1) (w .2))
       go false e = refl
+
+-- as a search's answer k says it
+module _ (l : List ℕ) (n b k : ℕ) (e : k ≡ first (λ i. eqb (getD l i 0) b) n) where
+  pub among-found : k < n → among l n b ≡ true
+  unfolding among
+  among-found h = lt-ltb (first (λ i. eqb (getD l i 0) b) n) n (omega arith)
+
+  pub among-missed : n ≤ k → among l n b ≡ false
+  unfolding among
+  among-missed h = le-ltb (first (λ i. eqb (getD l i 0) b) n) n (omega arith)
 
 -- those of the first n that are below a limit are distinct
 pub record Distinct (l : List ℕ) (n limit : ℕ) : Type 0 where

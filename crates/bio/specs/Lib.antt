@@ -2,3 +2,7 @@
 pub mod Among
 pub mod Seen
 pub mod Part
+pub mod Take
+pub mod Order
+pub mod Mask
+pub mod Fresh

@@ -1,10 +1,10 @@
 -- A block as a part of a slice: what `block_in` hands out. Assumes nothing.
-use mathlib.Core.Path.{_≡_, refl, sym, ap, _∙_}
+use mathlib.Core.Path.{_≡_, sym, ap, _∙_}
 use mathlib.Core.List.{List, []}
 use Prim.Native.Nat.{ℕ, _+_, _-_, _*_, _≤_, _<_}
 use native.Mathlib.Omega.{arith}
-use lib.ListN.{length, getD, take, drop, length-take, length-drop}
-use Rattle.base.specs.Bytes.{Bytes, bytes, bytes-from, bytes-none, bytes-part}
+use lib.ListN.{length, take, drop, length-take, length-drop}
+use Rattle.base.specs.Bytes.{bytes, bytes-from, bytes-none, bytes-part}
 use Rattle.bio.specs.Seen.{bufferOf, seen, seen-in, seen-out}
 
 -- r is the 1,024 bytes of s from i on: zeros past the end of s, and exactly so long where s has them all

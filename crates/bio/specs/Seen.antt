@@ -3,14 +3,14 @@
 use mathlib.Core.Path.{_≡_, refl, sym, ap, _∙_, fun-ext}
 use mathlib.Core.Bool.{Bool, true, false, cond}
 use mathlib.Core.List.{List}
-use Prim.Native.Nat.{ℕ, _+_, _*_, _/_, _%_, _≤_, _<_}
+use Prim.Native.Nat.{ℕ, _+_, _-_, _*_, _/_, _%_, _≤_, _<_}
 use native.Mathlib.Omega.{arith}
 use native.Mathlib.Decide.{ℕ-discrete, decLt}
 use lib.ListN.{getD}
 use lib.Dec.{eqb, ltb}
-use borrow.Author.Tests.{eq-eqb, ne-eqb, eqb-true, lt-ltb, le-ltb, ltb-true}
-use Rattle.base.specs.First.{first, first-at, first-none, first-before, first-holds}
-use Rattle.base.specs.Bytes.{Bytes, put, put-at, put-out, Lies, inside, outside, lies}
+use borrow.Author.Tests.{eq-eqb, ne-eqb, eqb-true, lt-ltb, le-ltb, ltb-true, ltb-false}
+use Rattle.base.specs.First.{first, first-at, first-none, first-le, first-before, first-holds, first-same}
+use Rattle.base.specs.Bytes.{Bytes, put, put-at, put-in, put-out, is-put, Lies, inside, outside, lies}
 
 -- buffer j holds block b, with a reference
 unfoldable pub pinned : List ℕ → List ℕ → ℕ → ℕ → Bool

@@ -1,12 +1,11 @@
 -- A table of cases: what a definition gives, and what document 01 says. One computed test passes over the whole table, and one law turns it
 -- into the equation of each row. Assumes nothing.
-use mathlib.Core.Path.{_≡_, refl, sym, ap, _∙_}
-use mathlib.Core.Bool.{Bool, true, false, cond, _&&_}
+use mathlib.Core.Path.{_≡_, refl}
+use mathlib.Core.Bool.{Bool, true, false, _&&_}
 use mathlib.Core.List.{List, [], _∷_}
-use Prim.Native.Nat.{ℕ, zero, suc, _<_}
+use Prim.Native.Nat.{ℕ, zero, suc}
 use native.Mathlib.Omega.{arith}
 use lib.Dec.{eqb}
-use lib.ListN.{length}
 use borrow.Author.Tests.{eqb-true}
 
 -- a case by its number in the paper: the numbers that the definitions give, and those that the paper says
@@ -17,6 +16,11 @@ pub record Case : Type 0 where
 
 abbrev pub case : ℕ → List ℕ → List ℕ → Case
 case n a b = record { no = n; gives = a; says = b }
+
+-- a fact as a number: 1 where it holds, 0 where it does not
+abbrev pub told : {P : Type 0} → Dec P → ℕ
+told (yes p) = 1
+told (no n) = 0
 
 -- two lists are the same
 abbrev pub same : List ℕ → List ℕ → Bool
@@ -61,3 +65,12 @@ pub at : (cs : List Case) → right cs ≡ true → (k : ℕ) → row cs k .give
 at [] e k = refl
 at (c ∷ cs) e zero = same-is (c .gives) (c .says) (left (same (c .gives) (c .says)) (right cs) e)
 at (c ∷ cs) e (suc k) = at cs (rest (same (c .gives) (c .says)) (right cs) e) k
+
+-- what the number of a fact says
+pub told-holds : {P : Type 0} (d : Dec P) → told d ≡ 1 → P
+told-holds (yes p) e = p
+told-holds (no n) e = absurd (omega arith)
+
+pub told-fails : {P : Type 0} (d : Dec P) → told d ≡ 0 → P → ⊥
+told-fails (yes p) e q = omega arith
+told-fails (no n) e q = n q

@@ -1,22 +1,22 @@
 -- A directory's entries as the code reads them in a memory, and that this is the lookup on the tree for a fit directory. Assumes nothing.
 use mathlib.Core.Path.{_≡_, refl, sym, ap, _∙_}
-use mathlib.Core.Bool.{Bool, true, false, cond, _&&_}
+use mathlib.Core.Bool.{Bool, true, false, cond}
 use Prim.Native.Nat.{ℕ, _+_, _-_, _*_, _/_, _%_, _≤_, _<_, min}
 use native.Mathlib.Omega.{arith}
 use lib.Dec.{eqb, ltb}
 use borrow.Author.Tests.{eq-eqb, ne-eqb, lt-ltb, le-ltb, ltb-true, ltb-false}
-use Rattle.base.specs.First.{first, first-at, first-none, first-before, first-holds, first-same, first-le}
+use Rattle.base.specs.First.{first, first-at, first-none, first-before, first-holds, first-same}
 use Rattle.base.specs.Bytes.{Bytes}
 use Rattle.base.specs.Number.{get, get-two, get-moved}
 use Rattle.superblock.specs.declared.Super.{Super}
 use Rattle.superblock.specs.declared.Inode.{Inode}
 use Rattle.superblock.specs.Node.{Node, node}
-use Rattle.superblock.specs.Disk.{Disk, disk, inoOf}
+use Rattle.superblock.specs.Disk.{disk, inoOf}
 use Rattle.rules.specs.Fit.{Fit, slot, slotOf, byteOf}
 use Rattle.rules.specs.Tree.{tree, numOf, nameOf, isEntry}
 use Rattle.inode.specs.Content.{content}
 use Rattle.path.specs.Names.{sameName, same-cong}
-use Rattle.dir.specs.Lookup.{entries, hasName, entryOf, lookup}
+use Rattle.dir.specs.Lookup.{hasName, entryOf, lookup}
 use Rattle.dir.specs.declared.Found.{Found}
 use Rattle.dir.specs.declared.Found.the-variants.{At, Missing}
 

@@ -2,11 +2,11 @@
 -- Assumes nothing.
 use mathlib.Core.Path.{_≡_, refl, sym, ap, _∙_}
 use mathlib.Core.Bool.{Bool, true, false, cond}
-use Prim.Native.Nat.{ℕ, _+_, _-_, _*_, _/_, _%_, _≤_, _<_}
+use Prim.Native.Nat.{ℕ, _-_, _/_, _<_}
 use native.Mathlib.Omega.{arith}
 use native.Mathlib.Decide.{decLt}
 use lib.Dec.{eqb, ltb}
-use borrow.Author.Tests.{eq-eqb, ne-eqb, eqb-true, lt-ltb, le-ltb, ltb-true}
+use borrow.Author.Tests.{eq-eqb, ltb-true}
 use Rattle.base.specs.First.{first, first-holds}
 use Rattle.base.specs.Bytes.{Bytes}
 use Rattle.base.specs.Decide.{never}

@@ -53,16 +53,25 @@ zeros = λ x. 0
 unfoldable pub rootBlock : Bytes
 rootBlock = put (put zeros 0 16 (entryBytes dot)) 16 16 (entryBytes dotdot)
 
--- a fresh card with these numbers: superblock, root inode, bits of all blocks up to the root's, root block; all else is zero
+-- each part of a fresh card, put where it belongs: the superblock's numbers in block 1
+abbrev pub putSuper : Super → Bytes → Bytes
+putSuper s d = put d 1024 32 (words (superWords s))
+
+-- the root directory as inode 1
+abbrev pub putRootNode : Super → Bytes → Bytes
+putRootNode s d = put d (inodeAddr s 1) 64 (encoded (rootNode (dataStart s)))
+
+-- the bitmap: the bits of all blocks up to the root's
+abbrev pub putBits : Super → Bytes → Bytes
+putBits s d = put d (s .bmapstart * 1024) (bitmapBlocks s * 1024) (ones (dataStart s + 1))
+
+-- the root directory's block at data start
+abbrev pub putRootBlock : Super → Bytes → Bytes
+putRootBlock s d = putBlock d (dataStart s) rootBlock
+
+-- a fresh card with these numbers: the four parts, and all else is zero
 unfoldable pub fresh : Super → Bytes
-fresh s =
-    putBlock
-    (put
-    (put
-    (put zeros 1024 32 (words (superWords s)))
-    (inodeAddr s 1) 64 (encoded (rootNode (dataStart s))))
-    (s .bmapstart * 1024) (bitmapBlocks s * 1024) (ones (dataStart s + 1)))
-    (dataStart s) rootBlock
+fresh s = putRootBlock s (putBits s (putRootNode s (putSuper s zeros)))
 
 -- the image that format leaves
 abbrev pub formatted : ℕ → ℕ → ℕ → Bytes

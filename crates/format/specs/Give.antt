@@ -1,18 +1,25 @@
 -- What format gives: document 01's table for it. Numbers that are not good, or an image of another length, get 2 and the image is untouched.
 -- Assumes nothing.
-use mathlib.Core.Path.{_≡_, refl, sym, ap, _∙_}
+use mathlib.Core.Path.{_≡_, sym, ap, _∙_}
+use mathlib.Core.Logic.{inl, inr}
 use mathlib.Core.List.{List, [], _∷_}
-use Prim.Native.Nat.{ℕ, _*_, _<_}
-use lib.ListN.{length, getD}
+use Prim.Native.Nat.{ℕ, _*_}
+use lib.ListN.{length}
 use lib.Seq.{ext-getD}
 use Rattle.base.specs.Bytes.{Bytes, bytes}
 use Rattle.base.specs.Rows.{Row, row, Gives, gives-one}
+use Rattle.base.specs.Refusals.{number}
 use Rattle.base.specs.declared.Refusal.{Refusal}
 use Rattle.base.specs.declared.Refusal.the-variants.{BadCall}
 use Rattle.superblock.specs.Geometry.{GoodNumbers}
 use Rattle.format.specs.declared.Answer.{Answer}
 use Rattle.format.specs.declared.Answer.the-variants.{Done, Refused}
 use Rattle.format.specs.Formatted.{numbersOf, formatted}
+
+-- document 01's number of an answer, 0 where the call is done
+abbrev pub answerNumber : Answer → ℕ
+answerNumber Done = 0
+answerNumber (Refused r) = number r
 
 -- the answer, and what the image holds next
 abbrev pub Left : Type 0
@@ -49,3 +56,16 @@ format-one image size ninodes nlog =
     (λ a b p q.
     pair a b (p .answer ∙ sym (q .answer))
     (ext-getD 0 (a .1) (b .1) (p .whole ∙ sym (q .whole)) (λ k _. ap (λ (d : Bytes). d k) (p .image ∙ sym (q .image)))))
+
+-- the paper's row, by its number: 2 and the image untouched where the numbers are not good or the length is another, and a fresh card else
+pub bad-gets-two : (image : List ℕ) (size ninodes nlog : ℕ) (l : Left) → FormatGives image size ninodes nlog l
+    → (GoodNumbers (numbersOf size ninodes nlog) → length image ≡ size * 1024 → ⊥) → (answerNumber (l .0) ≡ 2) × (l .1 ≡ image)
+bad-gets-two image size ninodes nlog l (inl g) bad = (ap (λ (x : Left). answerNumber (x .0)) (g .1), ap (λ (x : Left). x .1) (g .1))
+bad-gets-two image size ninodes nlog l (inr (n, inl g)) bad = (ap (λ (x : Left). answerNumber (x .0)) (g .1), ap (λ (x : Left). x .1) (g .1))
+bad-gets-two image size ninodes nlog l (inr (n, inr (m, w))) bad = absurd (n (λ g. m (λ e. bad g e)))
+
+pub good-is-written : (image : List ℕ) (size ninodes nlog : ℕ) (l : Left) → FormatGives image size ninodes nlog l
+    → GoodNumbers (numbersOf size ninodes nlog) → length image ≡ size * 1024 → Written size ninodes nlog l
+good-is-written image size ninodes nlog l (inl g) ok e = absurd (g .0 ok)
+good-is-written image size ninodes nlog l (inr (n, inl g)) ok e = absurd (g .0 e)
+good-is-written image size ninodes nlog l (inr (n, inr (m, w))) ok e = w

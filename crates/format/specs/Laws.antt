@@ -1,21 +1,21 @@
 -- How the code's stores make up a fresh card. Assumes nothing.
 use mathlib.Core.Path.{_≡_, refl, sym, ap, _∙_, fun-ext}
 use mathlib.Core.List.{List, [], _∷_}
-use Prim.Native.Nat.{ℕ, zero, suc, _+_, _-_, _*_, _/_, _%_, _^_, _≤_, _<_, min}
+use Prim.Native.Nat.{ℕ, _+_, _-_, _*_, _/_, _%_, _^_, _≤_, _<_, min}
 use native.Mathlib.Omega.{arith}
-use native.Mathlib.Decide.{ℕ-discrete, decLt, decLe}
+use native.Mathlib.Decide.{decLt}
 use lib.ListN.{getD, length, set, List·getD-eq-default}
-use lib.Pow.{pow-lt, pow-pos}
+use lib.Pow.{pow-lt}
 use Rattle.base.specs.First.{tabulate, getD-tabulate, length-tabulate}
-use Rattle.base.specs.Bytes.{Bytes, bytes, put, putBlock, put-in, put-out, put-at, put-none, put-more, put-same, is-put, bytes-set, store-more}
+use Rattle.base.specs.Bytes.{Bytes, bytes, put, put-out, put-at, put-none, put-more, put-same, is-put, store-more}
 use Rattle.base.specs.Number.{digit}
-use Rattle.base.specs.Update.{upd, upd-set, upd-same, upd-other}
+use Rattle.base.specs.Update.{upd, upd-set}
 use Rattle.superblock.specs.declared.Super.{Super}
-use Rattle.superblock.specs.Geometry.{GoodNumbers, Laid, bitmapBlocks, dataStart, inodeAddr}
-use Rattle.superblock.specs.Node.{Node, node, encoded}
+use Rattle.superblock.specs.Geometry.{GoodNumbers, bitmapBlocks, dataStart}
+use Rattle.superblock.specs.Node.{Node, encoded}
 use Rattle.superblock.specs.declared.Entry.{Entry}
 use Rattle.superblock.specs.Entry.{entryBytes}
-use Rattle.format.specs.Formatted.{dot, dotdot, words, superWords, ones, rootNode, rootBlock, zeros, fresh}
+use Rattle.format.specs.Formatted.{numbersOf, dot, dotdot, words, superWords, ones, rootNode, rootBlock, zeros, fresh}
 
 -- an image that was zeroed from end to end
 pub all-zero : (l : List ℕ) → put (bytes l) 0 (length l) (λ k. 0) ≡ zeros
@@ -130,3 +130,24 @@ root-written b o w p q z = rw (p, q, z)
 
 pub root-copied : (d : Bytes) (a : ℕ) (f : Bytes) → f ≡ rootBlock → put d a 1024 (λ k. f (0 + k)) ≡ put d a 1024 rootBlock
 root-copied d a f e = put-same d a 1024 (λ k. f (0 + k)) rootBlock (λ k h. ap f (omega arith) ∙ ap (λ (g : Bytes). g k) e)
+
+-- ---- the numbers
+
+-- when the numbers that format makes are good: the limits hold, and a data block is left
+pub numbers-good : (size ninodes nlog : ℕ) → 12 ≤ nlog → nlog ≤ 30 → 2 ≤ ninodes → ninodes ≤ 65535 → size ≤ 8191 → dataStart (numbersOf size ninodes nlog) < size
+    → GoodNumbers (numbersOf size ninodes nlog)
+numbers-good size ninodes nlog a b c d e f = record {
+  laid = record { inodestart = refl; bmapstart = refl; nblocks = omega arith; some = omega arith };
+  log-least = a;
+  log-most = b;
+  inodes-least = c;
+  inodes-most = d;
+  size-most = e;
+}
+
+-- good numbers are those that format makes of three of them
+pub numbers-of : (s : Super) → GoodNumbers s → s ≡ numbersOf (s .size) (s .ninodes) (s .nlog)
+numbers-of s g =
+    let b : s .bmapstart ≡ 2 + s .nlog + s .ninodes / 16 + 1 = omega (arith, g .laid .inodestart, g .laid .bmapstart) in
+    let n : s .nblocks ≡ s .size - (2 + s .nlog + s .ninodes / 16 + 1 + s .size / 8192 + 1) = omega (arith, g .laid .nblocks) in
+    λ i. record { size = s .size; nblocks = n i; ninodes = s .ninodes; nlog = s .nlog; inodestart = g .laid .inodestart i; bmapstart = b i }

@@ -2,3 +2,4 @@
 pub mod Formatted
 pub mod Laws
 pub mod Give
+pub mod Fresh

@@ -21,10 +21,12 @@ fn say(words: &[u8], n: u32) {
 
 fn say_super(image: &[u8]) {
     let s = superblock::super_of(image);
+    say(b"magic", base::get_u32(image, 1024));
     say(b"size", s.size);
     say(b"nblocks", s.nblocks);
     say(b"ninodes", s.ninodes);
     say(b"nlog", s.nlog);
+    say(b"logstart", base::get_u32(image, 1044));
     say(b"inodestart", s.inodestart);
     say(b"bmapstart", s.bmapstart);
 }

@@ -1,14 +1,14 @@
 -- A fit inode's content as the code reads it: byte by byte from the block that its slot names. Assumes nothing.
-use mathlib.Core.Path.{_≡_, refl, sym, ap, _∙_}
+use mathlib.Core.Path.{_≡_, sym, ap, _∙_}
 use mathlib.Core.Logic.{_⊎_, inl, inr}
-use Prim.Native.Nat.{ℕ, _+_, _-_, _*_, _/_, _%_, _≤_, _<_, min}
+use Prim.Native.Nat.{ℕ, _+_, _-_, _*_, _/_, _%_, _≤_, _<_}
 use native.Mathlib.Omega.{arith}
 use native.Mathlib.Decide.{decLt}
 use Rattle.base.specs.Bytes.{Bytes}
 use Rattle.superblock.specs.declared.Super.{Super}
 use Rattle.superblock.specs.Geometry.{dataStart}
 use Rattle.superblock.specs.Node.{Node}
-use Rattle.superblock.specs.Disk.{Disk, disk, inoOf, memOf}
+use Rattle.superblock.specs.Disk.{disk, inoOf, memOf}
 use Rattle.rules.specs.Fit.{Taken, Fit, blocks, slots, slot, slotOf, byteOf}
 use Rattle.inode.specs.Slots.{slot-direct, slot-mem, mem-high}
 

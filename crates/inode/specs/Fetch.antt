@@ -1,14 +1,13 @@
 -- An inode fetched through its block is the Disk's. Assumes nothing.
-use mathlib.Core.Path.{_≡_, refl, sym, ap, _∙_}
-use mathlib.Core.Bool.{Bool, true, false, cond, _&&_}
-use Prim.Native.Nat.{ℕ, _+_, _*_, _/_, _%_, _≤_, _<_}
+use mathlib.Core.Path.{_≡_, sym, ap, _∙_}
+use Prim.Native.Nat.{ℕ, _+_, _*_, _/_, _%_, _<_}
 use native.Mathlib.Omega.{arith}
 use borrow.Author.Tests.{lt-ltb}
 use Rattle.base.specs.Bytes.{Bytes}
 use Rattle.superblock.specs.declared.Super.{Super}
 use Rattle.superblock.specs.declared.Inode.{Inode}
 use Rattle.superblock.specs.Geometry.{inodeAddr}
-use Rattle.superblock.specs.Node.{Node, node, nodeIn, noNode, inodeAt}
+use Rattle.superblock.specs.Node.{node, nodeIn, inodeAt}
 use Rattle.superblock.specs.Record.{node-inodeAt, inode-moved}
 use Rattle.superblock.specs.Disk.{inoOf}
 

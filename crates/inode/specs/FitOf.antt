@@ -1,11 +1,11 @@
 -- Fitness as an answer: `fitOf` is true exactly for a fit inode (`fitOf-decides`), so that a definition can go by it. Assumes nothing.
-use mathlib.Core.Path.{_≡_, refl, sym, ap, _∙_}
+use mathlib.Core.Path.{_≡_, refl, sym, _∙_}
 use mathlib.Core.Bool.{Bool, true, false, cond, _&&_}
-use Prim.Native.Nat.{ℕ, zero, suc, _+_, _-_, _*_, _/_, _%_, _≤_, _<_, min}
+use Prim.Native.Nat.{ℕ, _-_, _%_, _≤_, _<_}
 use native.Mathlib.Omega.{arith}
-use native.Mathlib.Decide.{ℕ-discrete, decLt}
+use native.Mathlib.Decide.{decLt}
 use lib.Dec.{ltb, leb, eqb}
-use borrow.Author.Tests.{lt-ltb, le-ltb, eq-eqb, ne-eqb}
+use borrow.Author.Tests.{lt-ltb, le-ltb}
 use Rattle.base.specs.First.{all, all-yes, all-no}
 use Rattle.base.specs.Decide.{Decides, so, not-so, alike, never, eq-decides, lt-decides, le-decides}
 use Rattle.superblock.specs.declared.Super.{Super}

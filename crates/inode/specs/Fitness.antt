@@ -1,27 +1,23 @@
 -- Fitness as a test: a law for each place where the code answers, and `fitOf`, the answer itself, for definitions that go by it.
 -- Assumes nothing.
-use mathlib.Core.Path.{_≡_, refl, sym, ap, _∙_}
-use mathlib.Core.Bool.{Bool, true, false, cond, not, _&&_}
-use mathlib.Core.List.{List}
+use mathlib.Core.Path.{_≡_, sym, ap, _∙_}
+use mathlib.Core.Bool.{Bool, true, false}
 use mathlib.Core.Logic.{_⊎_, inl, inr}
-use Prim.Native.Nat.{ℕ, zero, suc, _+_, _-_, _*_, _/_, _%_, _≤_, _<_, min}
+use Prim.Native.Nat.{ℕ, _+_, _-_, _*_, _/_, _%_, _≤_, _<_}
 use native.Mathlib.Omega.{arith}
-use native.Mathlib.Decide.{ℕ-discrete, decLt}
-use lib.ListN.{getD}
-use lib.Dec.{ltb, leb, eqb}
-use borrow.Author.Tests.{lt-ltb, le-ltb, eqb-true, eqb-false}
-use Rattle.base.specs.First.{all, all-yes, all-no}
-use Rattle.base.specs.Bytes.{Bytes, bytes}
+use native.Mathlib.Decide.{decLt}
+use lib.Dec.{eqb}
+use borrow.Author.Tests.{lt-ltb, eqb-true, eqb-false}
+use Rattle.base.specs.Bytes.{Bytes}
 use Rattle.base.specs.Number.{get, get-moved}
 use Rattle.base.specs.Bit.{bitAt}
-use Rattle.base.specs.Decide.{Decides, so, not-so, alike, never}
+use Rattle.base.specs.Decide.{Decides, so, not-so, alike}
 use Rattle.superblock.specs.declared.Super.{Super}
-use Rattle.superblock.specs.declared.Inode.{Inode}
 use Rattle.superblock.specs.Geometry.{GoodNumbers, bits, dataStart, bitAddr}
-use Rattle.superblock.specs.Node.{Node, node}
+use Rattle.superblock.specs.Node.{Node}
 use Rattle.superblock.specs.Disk.{Disk, disk, memOf, bitOf}
 use Rattle.rules.specs.Fit.{Shape, Taken, Fit, blocks, slots, entry, slot}
-use Rattle.inode.specs.Slots.{TakenBy, SlotGood, slot-direct, slot-entry, slot-mem, entry-none, entry-some, entry-mem}
+use Rattle.inode.specs.Slots.{TakenBy, SlotGood, slot-direct, slot-entry, entry-none, entry-some, entry-mem}
 
 -- ---- kind and size
 

@@ -5,7 +5,7 @@ use Prim.Native.Nat.{ℕ, _*_}
 use lib.ListN.{length}
 use Rattle.base.specs.Bytes.{bytes}
 use Rattle.superblock.specs.declared.Super.{Super}
-use Rattle.superblock.specs.Geometry.{GoodNumbers}
+use Rattle.superblock.specs.Geometry.{Good, GoodNumbers, superOf}
 use Rattle.superblock.specs.Disk.{Disk, disk}
 use Rattle.bio.specs.Seen.{seen}
 
@@ -18,3 +18,7 @@ pub record Lent (s : Super) (image cache : List ℕ) : Type 0 where
 -- the Disk that is seen through a buffer table: its blocks and counts, the cache and the image
 abbrev pub diskSeen : Super → List ℕ → List ℕ → List ℕ → List ℕ → Disk
 diskSeen s blocks counts cache image = disk s (seen blocks counts (bytes cache) (bytes image))
+
+-- so it is where a good card's numbers are kept and the cache has its length
+pub lent : (s : Super) (image cache : List ℕ) → Good image → s ≡ superOf (bytes image) → length cache ≡ 30720 → Lent s image cache
+lent s image cache good same h = record { numbers = rw same (good .numbers); card = rw same (good .whole); buffers = h }

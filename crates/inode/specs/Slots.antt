@@ -1,24 +1,20 @@
 -- An inode's slots as the code reads and tests them, and what that says of the Disk. Assumes nothing.
 use mathlib.Core.Path.{_≡_, refl, sym, ap, _∙_}
-use mathlib.Core.Bool.{Bool, true, false, cond}
-use mathlib.Core.List.{List}
 use mathlib.Core.Logic.{_⊎_, inl, inr}
-use Prim.Native.Nat.{ℕ, zero, suc, _+_, _-_, _*_, _/_, _%_, _≤_, _<_, min}
+use Prim.Native.Nat.{ℕ, zero, suc, _+_, _-_, _*_, _/_, _%_, _≤_, _<_}
 use native.Mathlib.Omega.{arith}
-use native.Mathlib.Decide.{ℕ-discrete, decLt}
+use native.Mathlib.Decide.{decLt}
 use lib.ListN.{getD}
-use lib.Dec.{ltb, eqb}
 use borrow.Author.Tests.{lt-ltb, le-ltb}
-use Rattle.base.specs.Bytes.{Bytes, bytes}
+use Rattle.base.specs.Bytes.{Bytes}
 use Rattle.base.specs.Number.{get, get-same-bytes, get-moved}
 use Rattle.base.specs.Bit.{bitAt}
-use Rattle.base.specs.Decide.{Decides, so, not-so, alike}
 use Rattle.superblock.specs.declared.Super.{Super}
-use Rattle.superblock.specs.Geometry.{GoodNumbers, bits, dataStart, bitAddr}
+use Rattle.superblock.specs.Geometry.{dataStart}
 use Rattle.superblock.specs.Node.{Node, node}
-use Rattle.superblock.specs.Disk.{Disk, disk, memOf, bitOf}
+use Rattle.superblock.specs.Disk.{memOf}
 use Rattle.superblock.specs.declared.Inode.{Inode}
-use Rattle.rules.specs.Fit.{Shape, Taken, Fit, blocks, slots, entry, slot, slotOf}
+use Rattle.rules.specs.Fit.{entry, slot, slotOf}
 
 -- b is a data block whose bit is set in the bitmap m: `Taken`, of the bitmap's own bytes
 pub record TakenBy (s : Super) (m : Bytes) (b : ℕ) : Type 0 where

@@ -1,14 +1,14 @@
 -- A path's length and its components (document 01, "Path"). A path reads as 0 past its slice's end, so that a NUL and the end are one case.
 -- Assumes nothing.
-use mathlib.Core.Path.{_≡_, refl, ap, sym, _∙_}
+use mathlib.Core.Path.{_≡_, refl, sym, _∙_}
 use mathlib.Core.Bool.{Bool, true, false, not, cond}
 use mathlib.Core.List.{List}
-use Prim.Native.Nat.{ℕ, _+_, _-_, _*_, _<_, _≤_}
+use Prim.Native.Nat.{ℕ, _+_, _-_, _<_, _≤_}
 use native.Mathlib.Omega.{arith}
 use native.Mathlib.Nat.{lt-of-not-le}
 use native.Mathlib.Decide.{decLt}
-use lib.ListN.{length, getD, take, drop}
-use lib.Dec.{eqb, ltb}
+use lib.ListN.{length, take, drop}
+use lib.Dec.{eqb}
 use borrow.Author.Tests.{eq-eqb, ne-eqb, eqb-false, eqb-true}
 use Rattle.base.specs.First.{first, firstFrom, first-le, from-le, first-holds, first-before, first-pos}
 use Rattle.base.specs.Bytes.{Bytes, bytes, bytes-past}

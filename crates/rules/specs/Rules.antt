@@ -1,10 +1,10 @@
--- The seven rules of a sound image, from document 01, "Seven rules of a sound image". "Reading" cites the pages' notes on where it leaves room.
--- S3 to S7 mean something where S1 holds: they read the card by its superblock's numbers. Assumes nothing.
+-- The seven rules of a sound image, from document 01, "Seven rules of a sound image". "Reading N" is the note of that number in docs/DECISIONS.md on
+-- where the paper leaves room. S3 to S7 mean something where S1 holds: they read the card by its superblock's numbers. Assumes nothing.
 use mathlib.Core.Path.{_≡_}
 use mathlib.Core.Logic.{_≢_, _⊎_}
 use mathlib.Core.List.{List}
-use Prim.Native.Nat.{ℕ, _+_, _*_, _≤_, _<_}
-use Rattle.base.specs.Bytes.{Bytes, bytes}
+use Prim.Native.Nat.{ℕ, _≤_, _<_}
+use Rattle.base.specs.Bytes.{Bytes}
 use Rattle.base.specs.Number.{get}
 use Rattle.superblock.specs.declared.Super.{Super}
 use Rattle.superblock.specs.Geometry.{Good, dataStart}

@@ -1,8 +1,8 @@
 -- The tree that a Disk shows: kinds, link counts and directory entries. What S5 to S7 speak of; blocks and bits are no part of it. Assumes nothing.
 use mathlib.Core.Path.{_≡_}
 use mathlib.Core.Logic.{_≢_}
-use mathlib.Core.Bool.{Bool, true, false, cond, _&&_}
-use Prim.Native.Nat.{ℕ, zero, suc, _+_, _-_, _*_, _/_, _%_, _≤_, _<_}
+use mathlib.Core.Bool.{Bool, cond, _&&_}
+use Prim.Native.Nat.{ℕ, zero, suc, _+_, _*_, _≤_, _<_}
 use lib.Dec.{leb, ltb, eqb}
 use Rattle.base.specs.Bytes.{Bytes}
 use Rattle.base.specs.First.{sumTo}

@@ -1,31 +1,25 @@
 -- How the tests of a superblock's numbers against a card come together. Assumes nothing.
 use mathlib.Core.Path.{_≡_, refl, sym, ap, _∙_}
 use mathlib.Core.List.{List}
-use Prim.Native.Nat.{ℕ, _+_, _-_, _*_, _/_, _≤_, _<_}
+use Prim.Native.Nat.{ℕ, _*_, _≤_}
 use native.Mathlib.Omega.{arith}
 use lib.ListN.{length}
-use lib.Dec.{eqb}
-use Rattle.base.specs.Decide.{Decides, alike, eq-decides}
 use Rattle.base.specs.Bytes.{Bytes, bytes}
 use Rattle.base.specs.Number.{get}
 use Rattle.superblock.specs.declared.Super.{Super}
-use Rattle.superblock.specs.Geometry.{dataStart, Laid, GoodNumbers, Good, superOf}
-use Rattle.state.specs.Whole.{Card, Written}
+use Rattle.superblock.specs.Geometry.{GoodNumbers, Good, superOf}
+use Rattle.state.specs.Whole.{Card}
 
--- the last test of good numbers, after all others
-pub numbers-of : (s : Super) → 12 ≤ s .nlog → s .nlog ≤ 30 → 2 ≤ s .ninodes → s .ninodes ≤ 65535 → s .size ≤ 8191 → s .inodestart ≡ 2 + s .nlog
-    → s .bmapstart ≡ s .inodestart + s .ninodes / 16 + 1 → dataStart s < s .size → Decides (eqb (s .nblocks) (s .size - dataStart s)) (GoodNumbers s)
-numbers-of s a b c d e f h l = alike
-    (λ z. record {
-      laid = record { inodestart = f; bmapstart = h; nblocks = omega arith; some = omega arith };
-      log-least = a;
-      log-most = b;
-      inodes-least = c;
-      inodes-most = d;
-      size-most = e;
-    })
-    (λ g. omega (arith, g .laid .nblocks))
-    (eq-decides (s .nblocks) (s .size - dataStart s))
+-- the eight numbers of block 1
+pub record Written (s : Super) (d : Bytes) : Type 0 where
+  pub magic : get d 1024 4 ≡ 0x10203040
+  pub size : get d 1028 4 ≡ s .size
+  pub nblocks : get d 1032 4 ≡ s .nblocks
+  pub ninodes : get d 1036 4 ≡ s .ninodes
+  pub nlog : get d 1040 4 ≡ s .nlog
+  pub logstart : get d 1044 4 ≡ 2
+  pub inodestart : get d 1048 4 ≡ s .inodestart
+  pub bmapstart : get d 1052 4 ≡ s .bmapstart
 
 module _ (s : Super) (image : List ℕ) where
   pub card-numbers : Card s image → GoodNumbers s

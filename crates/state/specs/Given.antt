@@ -11,9 +11,10 @@ use borrow.Author.Tests.{eqb-true, ltb-true, lt-ltb, le-ltb}
 use Rattle.base.specs.First.{first, first-holds}
 use Rattle.base.specs.Pigeon.{pigeon}
 use Rattle.bio.specs.Among.{among, among-where, among-yes, among-none, Distinct}
+use Rattle.bio.specs.Order.{Named}
 use Rattle.bio.specs.Seen.{bufferOf, buffer-holds, buffer-is, buffer-none, held-below}
 use Rattle.superblock.specs.Geometry.{GoodNumbers}
-use Rattle.state.specs.Whole.{Volume, Card, Counts, GoodHomes, GoodBuffers, Buffered, Named, Whole, Pinned}
+use Rattle.state.specs.Whole.{Volume, Card, Counts, GoodHomes, GoodBuffers, Buffered, Whole, Pinned}
 use Rattle.state.specs.Marks.{count-is}
 use Rattle.state.specs.Card.{card-numbers, card-length}
 

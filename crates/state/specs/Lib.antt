@@ -2,6 +2,5 @@
 pub mod Whole
 pub mod Marks
 pub mod Slots
-pub mod Order
 pub mod Card
 pub mod Given

@@ -1,239 +1,228 @@
--- How three passes over marks, a byte for each block, decide that the homes and the buffers are good: a buffer's block gets 1 plus its count; each
--- home must find 2 and leaves 1; then no buffer's block has 2 left. Assumes nothing.
+-- How three passes decide that the homes and the buffers are good: one over the buffers leaves, for each remainder of a block's number by 256, the
+-- last buffer whose block has it, and searches only where a remainder comes again; one over the homes finds each in its buffer, and marks that
+-- buffer; one compares the counts with the marks. Assumes nothing.
 use mathlib.Core.Path.{_≡_, refl, sym, ap, _∙_}
 use mathlib.Core.Logic.{_⊎_, inl, inr, ⊎-elim}
 use mathlib.Core.Bool.{Bool, true, false, cond}
 use mathlib.Core.List.{List}
-use Prim.Native.Nat.{ℕ, _+_, _≤_, _<_}
+use Prim.Native.Nat.{ℕ, _+_, _%_, _≤_, _<_}
 use native.Mathlib.Omega.{arith}
 use native.Mathlib.Decide.{ℕ-discrete, decLt}
 use lib.ListN.{getD, length, set, replicate, length-replicate, getD-replicate, List·getD-eq-default}
 use lib.Seq.{getD-set-same, getD-set-other}
+use lib.Dec.{eqb}
+use borrow.Author.Tests.{lt-ltb, le-ltb, eqb-true}
+use Rattle.base.specs.First.{first, first-holds}
 use Rattle.base.specs.Bytes.{Bytes, bytes}
-use Rattle.base.specs.Decide.{Decides, lt-or-le}
+use Rattle.base.specs.Decide.{Decides}
 use Rattle.bio.specs.Among.{among, among-where, among-yes, among-no, among-none, Distinct, distinct-none, distinct-high, distinct-new, distinct-not}
 use Rattle.state.specs.Whole.{GoodHomes, GoodBuffers, Buffered, Pinned}
 
--- what the first pass tests of the first n buffers
-pub record Fine (blocks counts : List ℕ) (n size : ℕ) : Type 0 where
+-- ---- the first pass
+
+-- the first n buffers have distinct blocks, and each remainder of these has a mark
+pub record Placed (m : Bytes) (blocks : List ℕ) (n size : ℕ) : Type 0 where
   pub once : Distinct blocks n size
-  pub count : (j : ℕ) → j < n → getD counts j 0 ≤ 1
-  pub outside : (j : ℕ) → j < n → size ≤ getD blocks j 0 → getD counts j 0 ≡ 0
+  pub some : (j : ℕ) → j < n → getD blocks j 0 < size → m (getD blocks j 0 % 256) ≡ 0 → ⊥
+  pub small : (x : ℕ) → m x ≤ 30
 
--- the marks of the first n buffers' blocks
-pub record Marked (m : Bytes) (blocks counts : List ℕ) (n size : ℕ) : Type 0 where
-  pub mark : (j : ℕ) → j < n → getD blocks j 0 < size → m (getD blocks j 0) ≡ 1 + getD counts j 0
-  pub from : (x : ℕ) → (m x ≡ 0 → ⊥) → among blocks n x ≡ true
-  pub fine : Fine blocks counts n size
+-- what it gives
+pub record Places (ok : Bool) (m : Bytes) (blocks : List ℕ) (size : ℕ) : Type 0 where
+  pub tests : Decides ok (Distinct blocks 30 size)
+  pub small : ok ≡ true → (x : ℕ) → m x ≤ 30
 
--- the first pass
-pub record Marks (ok : Bool) (m : Bytes) (blocks counts : List ℕ) (size : ℕ) : Type 0 where
-  pub yes : ok ≡ true → Marked m blocks counts 30 size
-  pub no : ok ≡ false → Fine blocks counts 30 size → ⊥
+pub placed-none : (m : Bytes) (blocks : List ℕ) (size : ℕ) → ((x : ℕ) → m x ≡ 0) → Placed m blocks 0 size
+placed-none m blocks size z = record { once = distinct-none blocks size 0; some = λ j l. absurd (omega arith); small = λ x. omega (arith, z x) }
 
--- what the second pass tests of the first n homes
-pub record Found (m : Bytes) (homes : List ℕ) (n low size : ℕ) : Type 0 where
-  pub list : GoodHomes homes n low size
-  pub two : (i : ℕ) → i < n → m (getD homes i 0) ≡ 2
+module _ (blocks : List ℕ) (j b f : ℕ) (e : f ≡ first (λ k. eqb (getD blocks k 0) b) j) where
+  pub found-yes : f < j → among blocks j b ≡ true
+  unfolding among
+  found-yes h = rw (← e) (lt-ltb f j h)
 
--- the second pass
-pub record Met (ok : Bool) (m m' : Bytes) (homes : List ℕ) (n low size : ℕ) : Type 0 where
-  pub tests : Decides ok (Found m homes n low size)
-  pub next : ok ≡ true → (x : ℕ) → m' x ≡ cond (among homes n x) 1 (m x)
+  pub found-no : j ≤ f → among blocks j b ≡ false
+  unfolding among
+  found-no h = rw (← e) (le-ltb f j h)
 
--- the third pass
-pub record Clear (m : Bytes) (blocks : List ℕ) (size : ℕ) : Type 0 where
-  pub one : (j : ℕ) → j < 30 → getD blocks j 0 < size → m (getD blocks j 0) ≡ 1
-
--- ---- the first pass, turn by turn
-
-module _ (blocks counts : List ℕ) (j size : ℕ) where
-  fine-more : Fine blocks counts j size → Distinct blocks (j + 1) size → getD counts j 0 ≤ 1 → (size ≤ getD blocks j 0 → getD counts j 0 ≡ 0) → Fine blocks counts (j + 1) size
-  fine-more f d c o = record {
-    once = d;
-    count = λ k l. elim (ℕ-discrete k j) [ yes z ↦ rw z c | no z ↦ f .count k (omega arith) ];
-    outside = λ k l. elim (ℕ-discrete k j) [ yes z ↦ rw z o | no z ↦ f .outside k (omega arith) ];
+module _ (places blocks : List ℕ) (j size : ℕ) (p : Placed (bytes places) blocks j size) where
+  pub placed-high : size ≤ getD blocks j 0 → Placed (bytes places) blocks (j + 1) size
+  placed-high h = record {
+    once = distinct-high blocks size j (p .once) h;
+    some = λ k l b z. elim (ℕ-discrete k j) [
+      | yes y ↦ let x : getD blocks k 0 ≡ getD blocks j 0 = ap (λ (i : ℕ). getD blocks i 0) y in omega arith
+      | no y ↦ p .some k (omega arith) b z
+    ];
+    small = p .small;
   }
 
-  among-more : (x : ℕ) → among blocks j x ≡ true → among blocks (j + 1) x ≡ true
-  among-more x e = let w = among-where blocks j x e in among-yes blocks (j + 1) x (w .0) (omega (arith, w .1)) (w .2)
+  -- a remainder without a mark: the block is new
+  pub placed-new : getD blocks j 0 < size → getD places (getD blocks j 0 % 256) 0 ≡ 0 → among blocks j (getD blocks j 0) ≡ false
+  placed-new h z = among-none blocks j (getD blocks j 0) (λ i l e. p .some i l (rw e h) (ap (λ (x : ℕ). getD places (x % 256) 0) e ∙ z))
 
-  -- a buffer with no block of the card
-  pub marked-out : (m : Bytes) → Marked m blocks counts j size → getD counts j 0 ≤ 1 → size ≤ getD blocks j 0 → getD counts j 0 ≡ 0 → Marked m blocks counts (j + 1) size
-  marked-out m g c h z = record {
-    mark = λ k l b. elim (ℕ-discrete k j) [ yes y ↦ absurd (let x : getD blocks k 0 ≡ getD blocks j 0 = ap (λ (i : ℕ). getD blocks i 0) y in omega arith) | no y ↦ g .mark k (omega arith) b ];
-    from = λ x n. among-more x (g .from x n);
-    fine = fine-more (g .fine) (distinct-high blocks size j (g .fine .once) h) c (λ _. z);
-  }
-
-  -- a block that had no mark
-  pub marked-more : (marks : List ℕ) → Marked (bytes marks) blocks counts j size → getD counts j 0 ≤ 1 → getD blocks j 0 < size → getD blocks j 0 < length marks
-      → getD marks (getD blocks j 0) 0 ≡ 0 → Marked (bytes (set marks (getD blocks j 0) (1 + getD counts j 0))) blocks counts (j + 1) size
-  marked-more marks g c h l e = record {
-    mark = λ k m b. elim (ℕ-discrete k j) [
-      | yes y ↦ rw y (getD-set-same marks (getD blocks j 0) (1 + getD counts j 0) 0 l)
-      | no y ↦ elim (ℕ-discrete (getD blocks k 0) (getD blocks j 0)) [
-        | yes x ↦ absurd (omega (arith, g .mark k (omega arith) b, ap (λ (i : ℕ). getD marks i 0) x))
-        | no x ↦ getD-set-other marks (getD blocks j 0) (getD blocks k 0) (1 + getD counts j 0) 0 x ∙ g .mark k (omega arith) b
+  pub placed-more : length places ≡ 256 → j < 30 → getD blocks j 0 < size → among blocks j (getD blocks j 0) ≡ false
+      → Placed (bytes (set places (getD blocks j 0 % 256) (j + 1))) blocks (j + 1) size
+  placed-more long l h n = record {
+    once = distinct-new blocks size j (p .once) n;
+    some = λ k q b z. elim (ℕ-discrete (getD blocks k 0 % 256) (getD blocks j 0 % 256)) [
+      | yes y ↦ omega (arith, sym (ap (λ (x : ℕ). getD (set places (getD blocks j 0 % 256) (j + 1)) x 0) y) ∙ z, here)
+      | no y ↦ elim (ℕ-discrete k j) [
+        | yes x ↦ y (ap (λ (i : ℕ). getD blocks i 0 % 256) x)
+        | no x ↦ p .some k (omega arith) b (sym (getD-set-other places (getD blocks j 0 % 256) (getD blocks k 0 % 256) (j + 1) 0 y) ∙ z)
       ]
     ];
-    from = λ x n. elim (ℕ-discrete x (getD blocks j 0)) [
-      | yes y ↦ among-yes blocks (j + 1) x j (omega arith) (sym y)
-      | no y ↦ among-more x (g .from x (λ z. n (getD-set-other marks (getD blocks j 0) x (1 + getD counts j 0) 0 y ∙ z)))
+    small = λ x. elim (ℕ-discrete x (getD blocks j 0 % 256)) [
+      | yes y ↦ omega (arith, ap (λ (i : ℕ). getD (set places (getD blocks j 0 % 256) (j + 1)) i 0) y, here)
+      | no y ↦ omega (arith, getD-set-other places (getD blocks j 0 % 256) x (j + 1) 0 y, p .small x)
     ];
-    fine = fine-more (g .fine) (distinct-new blocks size j (g .fine .once) new) c (λ o. absurd (omega arith));
   }
     where
-      new : among blocks j (getD blocks j 0) ≡ false
-      new = among-none blocks j (getD blocks j 0) (λ i m z. omega (arith, g .mark i m (rw z h), ap (λ (x : ℕ). getD marks x 0) z))
+      here : getD (set places (getD blocks j 0 % 256) (j + 1)) (getD blocks j 0 % 256) 0 ≡ j + 1
+      here = getD-set-same places (getD blocks j 0 % 256) (j + 1) 0 (omega arith)
 
-  -- a block that had one is in two buffers
-  pub marked-twice : (m : Bytes) → Marked m blocks counts j size → j < 30 → getD blocks j 0 < size → (m (getD blocks j 0) ≡ 0 → ⊥) → Fine blocks counts 30 size → ⊥
-  marked-twice m g l h n f = distinct-not blocks size j 30 l h (g .from (getD blocks j 0) n) (f .once)
+-- ---- the buffer of a block
 
-pub marked-none : (m : Bytes) (blocks counts : List ℕ) (size : ℕ) → ((x : ℕ) → m x ≡ 0) → Marked m blocks counts 0 size
-marked-none m blocks counts size z = record {
-  mark = λ j l. absurd (omega arith);
-  from = λ x n. absurd (n (z x));
-  fine = record { once = distinct-none blocks size 0; count = λ j l. absurd (omega arith); outside = λ j l. absurd (omega arith) };
+-- r is a buffer that has block b, or 30 where none has
+pub record Holder (blocks : List ℕ) (b r : ℕ) : Type 0 where
+  pub has : r < 30 → getD blocks r 0 ≡ b
+  pub none : 30 ≤ r → (j : ℕ) → j < 30 → getD blocks j 0 ≡ b → ⊥
+
+pub holder-here : (blocks : List ℕ) (b r : ℕ) → r < 30 → getD blocks r 0 ≡ b → Holder blocks b r
+holder-here blocks b r h e = record { has = λ _. e; none = λ l. absurd (omega arith) }
+
+pub holder-found : (blocks : List ℕ) (b r : ℕ) → r ≡ first (λ k. eqb (getD blocks k 0) b) 30 → Holder blocks b r
+holder-found blocks b r e = record {
+  has = λ h. eqb-true (getD blocks r 0) b (rw (← e) at (first-holds (λ k. eqb (getD blocks k 0) b) 30 (rw e at h)));
+  none = λ h. among-no blocks 30 b (found-no blocks 30 b r e h);
 }
 
--- ---- the second pass, turn by turn
+-- ---- the second pass
 
--- what the marks are after the first i homes
-abbrev pub After : Bytes → Bytes → List ℕ → ℕ → Type 0
-After m m' homes i = (x : ℕ) → m' x ≡ cond (among homes i x) 1 (m x)
+-- the first n homes are good, and each is in a buffer with count 1
+pub record Found (blocks counts homes : List ℕ) (n low size : ℕ) : Type 0 where
+  pub list : GoodHomes homes n low size
+  pub pinned : (i : ℕ) → i < n → Pinned blocks counts (getD homes i 0)
 
-pub found-none : (m : Bytes) (homes : List ℕ) (low size : ℕ) → Found m homes 0 low size
-found-none m homes low size = record {
+-- the buffers that hold one of the first n homes have the mark 1, the others 0
+abbrev pub Marked : Bytes → List ℕ → List ℕ → ℕ → Type 0
+Marked m blocks homes n = (j : ℕ) → j < 30 → m j ≡ cond (among homes n (getD blocks j 0)) 1 0
+
+-- what it gives
+pub record Met (ok : Bool) (m : Bytes) (blocks counts homes : List ℕ) (n low size : ℕ) : Type 0 where
+  pub tests : Decides ok (Found blocks counts homes n low size)
+  pub marked : ok ≡ true → Marked m blocks homes n
+
+pub found-none : (blocks counts homes : List ℕ) (low size : ℕ) → Found blocks counts homes 0 low size
+found-none blocks counts homes low size = record {
   list = record { low = λ i l. absurd (omega arith); high = λ i l. absurd (omega arith); distinct = distinct-none homes size 0 };
-  two = λ i l. absurd (omega arith);
+  pinned = λ i l. absurd (omega arith);
 }
 
-pub after-none : (m : Bytes) (homes : List ℕ) → After m m homes 0
-after-none m homes x = rw (among-none homes 0 x (λ i l e. omega arith))
+pub marked-none : (m : Bytes) (blocks homes : List ℕ) → ((x : ℕ) → m x ≡ 0) → Marked m blocks homes 0
+marked-none m blocks homes z j l = rw (among-none homes 0 (getD blocks j 0) (λ i h e. omega arith)) (z j)
 
-module _ (m : Bytes) (marks homes : List ℕ) (i low size : ℕ) (a : After m (bytes marks) homes i) where
-  -- a home that finds 2 is new, and its mark was 2 from the start
-  two-new : getD marks (getD homes i 0) 0 ≡ 2 → (among homes i (getD homes i 0) ≡ false) × (m (getD homes i 0) ≡ 2)
-  two-new e = go (among homes i (getD homes i 0)) refl
+module _ (marks blocks counts homes : List ℕ) (i low size k : ℕ) (m : Marked (bytes marks) blocks homes i) (o : Distinct blocks 30 size)
+    (s : getD homes i 0 < size) (h : Holder blocks (getD homes i 0) k) (l : k < 30) where
+  -- a buffer without a mark: the home is new
+  new : getD marks k 0 ≡ 0 → among homes i (getD homes i 0) ≡ false
+  new z = go (among homes i (getD homes i 0)) refl
     where
-      go : (t : Bool) → among homes i (getD homes i 0) ≡ t → (among homes i (getD homes i 0) ≡ false) × (m (getD homes i 0) ≡ 2)
-      go true z = absurd (omega (arith, a (getD homes i 0), ap (λ (t : Bool). cond {A = ℕ} t 1 (m (getD homes i 0))) z))
-      go false z = (z, omega (arith, a (getD homes i 0), ap (λ (t : Bool). cond {A = ℕ} t 1 (m (getD homes i 0))) z))
+      go : (t : Bool) → among homes i (getD homes i 0) ≡ t → t ≡ false
+      go true e = absurd (omega (arith, z, m k l ∙ ap (λ (x : ℕ). cond {A = ℕ} (among homes i x) 1 0) (h .has l) ∙ ap (λ (t : Bool). cond t 1 0) e))
+      go false e = refl
 
-  pub found-more : Found m homes i low size → low ≤ getD homes i 0 → getD homes i 0 < size → getD marks (getD homes i 0) 0 ≡ 2 → Found m homes (i + 1) low size
-  found-more f l h e = record {
+  pub found-more : Found blocks counts homes i low size → low ≤ getD homes i 0 → getD counts k 0 ≡ 1 → getD marks k 0 ≡ 0 → Found blocks counts homes (i + 1) low size
+  found-more f b c z = record {
     list = record {
-      low = λ k q. elim (ℕ-discrete k i) [ yes z ↦ rw z l | no z ↦ f .list .low k (omega arith) ];
-      high = λ k q. elim (ℕ-discrete k i) [ yes z ↦ rw z h | no z ↦ f .list .high k (omega arith) ];
-      distinct = distinct-new homes size i (f .list .distinct) (two-new e .0);
+      low = λ j q. elim (ℕ-discrete j i) [ yes y ↦ rw y b | no y ↦ f .list .low j (omega arith) ];
+      high = λ j q. elim (ℕ-discrete j i) [ yes y ↦ rw y s | no y ↦ f .list .high j (omega arith) ];
+      distinct = distinct-new homes size i (f .list .distinct) (new z);
     };
-    two = λ k q. elim (ℕ-discrete k i) [ yes z ↦ rw z (two-new e .1) | no z ↦ f .two k (omega arith) ];
+    pinned = λ j q. elim (ℕ-discrete j i) [
+      | yes y ↦ rw y (record { at = k; below = l; block = h .has l; count = c })
+      | no y ↦ f .pinned j (omega arith)
+    ];
   }
 
-  pub after-more : getD homes i 0 < length marks → After m (bytes (set marks (getD homes i 0) 1)) homes (i + 1)
-  after-more l x = elim (ℕ-discrete x (getD homes i 0)) [
-    | yes z ↦ rw (z, among-yes homes (i + 1) (getD homes i 0) i (omega arith) refl) (getD-set-same marks (getD homes i 0) 1 0 l)
-    | no z ↦ getD-set-other marks (getD homes i 0) x 1 0 z ∙ a x ∙ ap (λ (t : Bool). cond t 1 (m x)) (same z)
+  pub marked-more : length marks ≡ 30 → Marked (bytes (set marks k 1)) blocks homes (i + 1)
+  marked-more long j q = elim (ℕ-discrete j k) [
+    | yes z ↦ rw (z, h .has l, among-yes homes (i + 1) (getD homes i 0) i (omega arith) refl) (getD-set-same marks k 1 0 (omega arith))
+    | no z ↦ getD-set-other marks k j 1 0 z ∙ m j q ∙ ap (λ (t : Bool). cond t 1 0) (same (λ e. z (o .same j k q l (omega arith) (e ∙ sym (h .has l)))))
   ]
     where
-      same : (x ≡ getD homes i 0 → ⊥) → among homes i x ≡ among homes (i + 1) x
-      same z = go (among homes i x) refl
+      same : (getD blocks j 0 ≡ getD homes i 0 → ⊥) → among homes i (getD blocks j 0) ≡ among homes (i + 1) (getD blocks j 0)
+      same z = go (among homes i (getD blocks j 0)) refl
         where
-          go : (t : Bool) → among homes i x ≡ t → among homes i x ≡ among homes (i + 1) x
-          go true e = let w = among-where homes i x e in e ∙ sym (among-yes homes (i + 1) x (w .0) (omega (arith, w .1)) (w .2))
-          go false e = e ∙ sym (among-none homes (i + 1) x (λ k l y. elim (ℕ-discrete k i) [
-            | yes q ↦ z (sym y ∙ ap (λ (o : ℕ). getD homes o 0) q)
-            | no q ↦ among-no homes i x e k (omega arith) y
+          go : (t : Bool) → among homes i (getD blocks j 0) ≡ t → among homes i (getD blocks j 0) ≡ among homes (i + 1) (getD blocks j 0)
+          go true e = let w = among-where homes i (getD blocks j 0) e in e ∙ sym (among-yes homes (i + 1) (getD blocks j 0) (w .0) (omega (arith, w .1)) (w .2))
+          go false e = e ∙ sym (among-none homes (i + 1) (getD blocks j 0) (λ a b y. elim (ℕ-discrete a i) [
+            | yes x ↦ z (sym y ∙ ap (λ (c : ℕ). getD homes c 0) x)
+            | no x ↦ among-no homes i (getD blocks j 0) e a (omega arith) y
           ]))
 
-  -- a home that finds another mark
-  pub not-two : (n : ℕ) → i < n → (getD marks (getD homes i 0) 0 ≡ 2 → ⊥) → Found m homes n low size → ⊥
-  not-two n l e f = go (among homes i (getD homes i 0)) refl
+  -- a count that is not 1, or a mark
+  pub not-pinned : (n : ℕ) → i < n → (getD counts k 0 ≡ 1 → ⊥) → Found blocks counts homes n low size → ⊥
+  not-pinned n q c f =
+      let p = f .pinned i q in
+      let z : p .at ≡ k = o .same (p .at) k (p .below) l (omega (arith, p .block)) (p .block ∙ sym (h .has l)) in
+      c (rw z at (p .count))
+
+  pub met-twice : (n : ℕ) → i < n → (getD marks k 0 ≡ 0 → ⊥) → Found blocks counts homes n low size → ⊥
+  met-twice n q c f = go (among homes i (getD homes i 0)) refl
     where
       go : (t : Bool) → among homes i (getD homes i 0) ≡ t → ⊥
-      go true z = distinct-not homes size i n l (f .list .high i l) z (f .list .distinct)
-      go false z = e (a (getD homes i 0) ∙ ap (λ (t : Bool). cond t 1 (m (getD homes i 0))) z ∙ f .two i l)
+      go true e = distinct-not homes size i n q s e (f .list .distinct)
+      go false e = c (m k l ∙ ap (λ (x : ℕ). cond {A = ℕ} (among homes i x) 1 0) (h .has l) ∙ ap (λ (t : Bool). cond t 1 0) e)
 
--- ---- together
+-- a home in no buffer
+pub not-held : (blocks counts homes : List ℕ) (i low size k n : ℕ) → Holder blocks (getD homes i 0) k → 30 ≤ k → i < n → Found blocks counts homes n low size → ⊥
+not-held blocks counts homes i low size k n h l q f = let p = f .pinned i q in h .none l (p .at) (p .below) (p .block)
+
+-- ---- the third pass, and all three
+
+-- the counts are the marks
+pub record Agree (m : Bytes) (counts : List ℕ) : Type 0 where
+  pub each : (j : ℕ) → j < 30 → getD counts j 0 ≡ m j
 
 module _ (blocks counts homes : List ℕ) (n low size : ℕ) where
-  -- the buffer of a home is the only one with that block
-  only : Buffered blocks counts homes n low size → (j : ℕ) → j < 30 → among homes n (getD blocks j 0) ≡ true → getD counts j 0 ≡ 1
-  only g j l e =
-      let w = among-where homes n (getD blocks j 0) e in
-      let p = g .buffers .held (w .0) (w .1) in
-      let z : p .at ≡ j = g .buffers .once .same (p .at) j (p .below) l (omega (arith, p .block, g .list .high (w .0) (w .1))) (p .block ∙ w .2) in
-      rw z at (p .count)
-
   -- a home's buffer has count 1, any other 0
   pub count-is : Buffered blocks counts homes n low size → (j : ℕ) → j < 30 → getD counts j 0 ≡ cond (among homes n (getD blocks j 0)) 1 0
   count-is g j l = go (among homes n (getD blocks j 0)) refl
     where
+      -- the buffer of a home is the only one with that block
+      only : among homes n (getD blocks j 0) ≡ true → getD counts j 0 ≡ 1
+      only e =
+          let w = among-where homes n (getD blocks j 0) e in
+          let p = g .buffers .held (w .0) (w .1) in
+          let z : p .at ≡ j = g .buffers .once .same (p .at) j (p .below) l (omega (arith, p .block, g .list .high (w .0) (w .1))) (p .block ∙ w .2) in
+          rw z at (p .count)
+
       go : (t : Bool) → among homes n (getD blocks j 0) ≡ t → getD counts j 0 ≡ cond t 1 0
-      go true e = only g j l e
+      go true e = only e
       go false e = g .buffers .others j l e
 
-  pub is-fine : Buffered blocks counts homes n low size → Fine blocks counts 30 size
-  is-fine g = record {
-    once = g .buffers .once;
-    count = λ j l. go j l (among homes n (getD blocks j 0)) refl;
-    outside = λ j l o. g .buffers .others j l (among-none homes n (getD blocks j 0) (λ i h e. omega (arith, g .list .high i h)));
-  }
-    where
-      go : (j : ℕ) → j < 30 → (t : Bool) → among homes n (getD blocks j 0) ≡ t → getD counts j 0 ≤ 1
-      go j l true e = omega (arith, only g j l e)
-      go j l false e = omega (arith, g .buffers .others j l e)
+  pub is-found : Buffered blocks counts homes n low size → Found blocks counts homes n low size
+  is-found g = record { list = g .list; pinned = g .buffers .held }
 
-  module _ (m : Bytes) (k : Marked m blocks counts 30 size) where
-    pub is-found : Buffered blocks counts homes n low size → Found m homes n low size
-    is-found g = record {
-      list = g .list;
-      two = λ i l. let p = g .buffers .held i l in
-          let h : getD blocks (p .at) 0 < size = omega (arith, p .block, g .list .high i l) in
-          ap m (sym (p .block)) ∙ k .mark (p .at) (p .below) h ∙ ap (λ (x : ℕ). 1 + x) (p .count);
+  module _ (m : Bytes) (k : Marked m blocks homes n) where
+    pub is-agreed : Buffered blocks counts homes n low size → Agree m counts
+    is-agreed g = record { each = λ j l. count-is g j l ∙ sym (k j l) }
+
+    pub is-buffered : Distinct blocks 30 size → Found blocks counts homes n low size → Agree m counts → Buffered blocks counts homes n low size
+    is-buffered o f a = record {
+      list = f .list;
+      buffers = record {
+        held = f .pinned;
+        others = λ j l e. a .each j l ∙ k j l ∙ ap (λ (t : Bool). cond t 1 0) e;
+        once = o;
+      };
     }
 
-    module _ (m' : Bytes) (a : After m m' homes n) where
-      pub is-clear : Buffered blocks counts homes n low size → Clear m' blocks size
-      is-clear g = record { one = λ j l h. a (getD blocks j 0) ∙ go j l h (among homes n (getD blocks j 0)) refl }
-        where
-          go : (j : ℕ) → j < 30 → getD blocks j 0 < size → (t : Bool) → among homes n (getD blocks j 0) ≡ t → cond t 1 (m (getD blocks j 0)) ≡ 1
-          go j l h true e = refl
-          go j l h false e = k .mark j l h ∙ ap (λ (x : ℕ). 1 + x) (g .buffers .others j l e)
+-- ---- nothing marked yet
 
-      pub is-buffered : Found m homes n low size → Clear m' blocks size → Buffered blocks counts homes n low size
-      is-buffered f c = record {
-        list = f .list;
-        buffers = record {
-          held = λ i l.
-              let w = among-where blocks 30 (getD homes i 0) (k .from (getD homes i 0) (omega (arith, f .two i l))) in
-              let h : getD blocks (w .0) 0 < size = omega (arith, w .2, f .list .high i l) in
-              record {
-                at = w .0;
-                below = w .1;
-                block = w .2;
-                count = omega (arith, f .two i l, k .mark (w .0) (w .1) h, ap m (w .2));
-              };
-          others = λ j l e. go j l e (lt-or-le (getD blocks j 0) size);
-          once = k .fine .once;
-        };
-      }
-        where
-          go : (j : ℕ) → j < 30 → among homes n (getD blocks j 0) ≡ false → (getD blocks j 0 < size) ⊎ (size ≤ getD blocks j 0) → getD counts j 0 ≡ 0
-          go j l e (inl h) = omega (arith, k .mark j l h, c .one j l h, a (getD blocks j 0), ap (λ (t : Bool). cond {A = ℕ} t 1 (m (getD blocks j 0))) e)
-          go j l e (inr h) = k .fine .outside j l h
-
--- no marks yet
-abbrev pub noMarks : List ℕ
-noMarks = replicate 8192 0
-
-pub marks-long : length noMarks ≡ 8192
-marks-long = length-replicate {A = ℕ} 8192 0
-
-pub no-marks : (x : ℕ) → bytes noMarks x ≡ 0
-no-marks x = elim (decLt x 8192) [
-  | yes h ↦ getD-replicate {A = ℕ} 8192 x 0 0 h
-  | no h ↦ List·getD-eq-default {A = ℕ} noMarks 0 {n = x} (omega (arith, marks-long))
+pub zeros : (n x : ℕ) → bytes (replicate n 0) x ≡ 0
+zeros n x = elim (decLt x n) [
+  | yes h ↦ getD-replicate {A = ℕ} n x 0 0 h
+  | no h ↦ List·getD-eq-default {A = ℕ} (replicate n 0) 0 {n = x} (omega (arith, length-replicate {A = ℕ} n 0))
 ]
+
+pub zeros-long : (n : ℕ) → length (replicate {A = ℕ} n 0) ≡ n
+zeros-long n = length-replicate {A = ℕ} n 0

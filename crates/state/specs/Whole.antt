@@ -1,12 +1,12 @@
 -- A state is whole: document 01's "A state is whole when ..", sentence by sentence. Contents are not compared. Assumes nothing.
 use mathlib.Core.Path.{_≡_}
-use mathlib.Core.Bool.{true, false}
+use mathlib.Core.Bool.{false}
 use mathlib.Core.List.{List}
-use Prim.Native.Nat.{ℕ, _+_, _*_, _≤_, _<_, min}
+use Prim.Native.Nat.{ℕ, _+_, _≤_, _<_, min}
 use lib.ListN.{getD, length}
-use Rattle.base.specs.Bytes.{Bytes, bytes}
-use Rattle.base.specs.Number.{get}
+use Rattle.base.specs.Bytes.{bytes}
 use Rattle.bio.specs.Among.{among, Distinct}
+use Rattle.bio.specs.Order.{Named}
 use Rattle.superblock.specs.declared.Super.{Super}
 use Rattle.superblock.specs.Geometry.{Good, superOf}
 pub use Rattle.state.specs.declared.Slots.{Slots}
@@ -48,10 +48,6 @@ pub record Buffered (blocks counts homes : List ℕ) (n low size : ℕ) : Type 0
   pub list : GoodHomes homes n low size
   pub buffers : GoodBuffers blocks counts homes n size
 
--- the order names each buffer; it has as many places as there are buffers, so each once (`named-once` of Given)
-pub record Named (order : List ℕ) : Type 0 where
-  pub each : (k : ℕ) → k < 30 → among order 30 k ≡ true
-
 -- slots in use hold distinct inodes from 1 to ninodes - 1, counts 1 to 1,000
 pub record GoodSlots (inums refs : List ℕ) (ninodes : ℕ) : Type 0 where
   pub low : (k : ℕ) → k < 50 → 0 < getD refs k 0 → 1 ≤ getD inums k 0
@@ -59,7 +55,16 @@ pub record GoodSlots (inums refs : List ℕ) (ninodes : ℕ) : Type 0 where
   pub count : (k : ℕ) → k < 50 → 0 < getD refs k 0 → getD refs k 0 ≤ 1000
   pub distinct : (j k : ℕ) → j < 50 → k < 50 → 0 < getD refs j 0 → 0 < getD refs k 0 → getD inums j 0 ≡ getD inums k 0 → j ≡ k
 
--- a mounted volume's state is whole
+-- 30 and 50 of each, as the types of the code say
+pub record Lengths (v : Volume) : Type 0 where
+  pub blocks : length (v .table .blocks) ≡ 30
+  pub counts : length (v .table .counts) ≡ 30
+  pub order : length (v .table .order) ≡ 30
+  pub homes : length (v .homes) ≡ 30
+  pub inums : length (v .slots .inums) ≡ 50
+  pub refs : length (v .slots .refs) ≡ 50
+
+-- a mounted volume's state is whole; the order names each buffer, and has as many places, so each once (`named-once` of Given)
 pub record Whole (v : Volume) (image : List ℕ) : Type 0 where
   pub live : v .live ≡ 1
   pub card : Card (v .sb) image
@@ -67,14 +72,4 @@ pub record Whole (v : Volume) (image : List ℕ) : Type 0 where
   pub buffered : Buffered (v .table .blocks) (v .table .counts) (v .homes) (v .recorded) (v .sb .inodestart) (v .sb .size)
   pub order : Named (v .table .order)
   pub slots : GoodSlots (v .slots .inums) (v .slots .refs) (v .sb .ninodes)
-
--- the eight numbers of block 1
-pub record Written (s : Super) (d : Bytes) : Type 0 where
-  pub magic : get d 1024 4 ≡ 0x10203040
-  pub size : get d 1028 4 ≡ s .size
-  pub nblocks : get d 1032 4 ≡ s .nblocks
-  pub ninodes : get d 1036 4 ≡ s .ninodes
-  pub nlog : get d 1040 4 ≡ s .nlog
-  pub logstart : get d 1044 4 ≡ 2
-  pub inodestart : get d 1048 4 ≡ s .inodestart
-  pub bmapstart : get d 1052 4 ≡ s .bmapstart
+  pub lengths : Lengths v

@@ -1,14 +1,14 @@
 // The state of a volume (log.rs and inode.rs keep it in statics), by value: the superblock's numbers, the buffer table, the recorded homes, how
-// many operations are open, the handle slots. `whole` runs at the head of every call, so it marks blocks and does not compare pairs.
+// many operations are open, the handle slots. `whole` runs at the head of every call, so it marks buffers and does not compare pairs.
 ghost use mathlib.Core.Path.{_≡_};
-ghost use mathlib.Core.Bool.{true, cond};
 ghost use Prim.Native.Nat.{ℕ, _+_, _*_, _<_, _≤_};
 ghost use lib.ListN.{length, getD};
 ghost use Rattle.base.specs.Bytes.{bytes};
 ghost use Rattle.base.specs.Decide.{Decides};
-ghost use Rattle.superblock.specs.Geometry.{GoodNumbers};
-ghost use Rattle.state.specs.Whole.{Written, Card, Counts, Named, Buffered, GoodSlots, Whole};
-ghost use Rattle.state.specs.Marks.{Marks, Met, Clear};
+ghost use Rattle.bio.specs.Among.{Distinct};
+ghost use Rattle.state.specs.Whole.{Card, Counts, Buffered, GoodSlots, Whole};
+ghost use Rattle.state.specs.Card.{Written};
+ghost use Rattle.state.specs.Marks.{Places, Holder, Met, Agree};
 ghost use Rattle.state.specs.Slots.{GoodSlot, slotOf};
 use bio::Table;
 use superblock::Super;
@@ -39,59 +39,58 @@ pub struct Handle {
     pub inum: u32,
 }
 
-// The order names each buffer: bit k of the mask is set where k was met.
-pub fn named(order: &[u32; 30]) -> bool
-    ensures { λ r. ⌜ Decides r (Named (now (order .entry))) ⌝ }
-{
-    let mut mask: u32 = 0;
-    let mut i: usize = 0;
-    while i < 30 {
-        let o = order[i];
-        if o < 30 {
-            mask = mask | (1 << o);
-        }
-        i += 1;
-    }
-    mask == 1073741823
-}
-
-// Each buffer's block gets the mark 1 plus the buffer's count.
-fn mark_blocks<'b>(
-    marks: &mut [u8; 8192],
-    blocks: &'b [u32; 30],
-    counts: &'b [u32; 30],
-    size: u32,
-) -> bool
-    requires { ⌜ ((x : ℕ) → bytes (now marks) x ≡ 0) × (size ≤ 8192) × (length (now marks) ≡ 8192) ⌝ }
-    ensures { λ r. ⌜ (length (now (marks .exit)) ≡ 8192) × Marks r (bytes (now (marks .exit))) (now (blocks .entry)) (now (counts .entry)) size ⌝ }
+// Where a block may be: for each remainder by 256, 1 plus the last buffer whose block has it, 0 for none. Where a remainder comes again, a
+// search says whether the block does.
+fn place_blocks(places: &mut [u8; 256], blocks: &[u32; 30], size: u32) -> bool
+    requires { ⌜ ((x : ℕ) → bytes (now places) x ≡ 0) × (length (now places) ≡ 256) ⌝ }
+    ensures { λ r. ⌜ (length (now (places .exit)) ≡ 256) × Places r (bytes (now (places .exit))) (now (blocks .entry)) size ⌝ }
 {
     let mut j: usize = 0;
     while j < 30 {
         let b = blocks[j];
-        let c = counts[j];
-        if 1 < c {
-            return false;
-        }
         if b < size {
-            let at = b as usize;
-            if marks[at] != 0 {
-                return false;
+            let at = (b % 256) as usize;
+            if places[at] != 0 {
+                if base::find(blocks, j, b) < j {
+                    return false;
+                }
             }
-            marks[at] = 1 + (c as u8);
-        } else {
-            if c != 0 {
-                return false;
-            }
+            places[at] = (j + 1) as u8;
         }
         j += 1;
     }
     true
 }
 
-// Each home must find the mark 2, a buffer with count 1, and makes it 1: a home that comes twice finds 1.
-fn mark_homes(marks: &mut [u8; 8192], homes: &[u32; 30], n: usize, low: u32, size: u32) -> bool
-    requires { ⌜ (n ≤ 30) × (size ≤ 8192) × (length (now marks) ≡ 8192) ⌝ }
-    ensures { λ r. ⌜ Met r (bytes (now (marks .entry))) (bytes (now (marks .exit))) (now (homes .entry)) n low size ⌝ }
+// The buffer that has block b, or 30: the one at its place, else by a search.
+fn holder(places: &[u8; 256], blocks: &[u32; 30], b: u32) -> usize
+    requires { ⌜ ((x : ℕ) → bytes (now places) x ≤ 30) ⌝ }
+    ensures { λ r. ⌜ Holder (now (blocks .entry)) b r ⌝ }
+{
+    let at = (b % 256) as usize;
+    let p = places[at];
+    if p != 0 {
+        let j = (p - 1) as usize;
+        if blocks[j] == b {
+            return j;
+        }
+    }
+    base::find(blocks, 30, b)
+}
+
+// Each home must be in range and in a buffer with count 1 that no home before it has marked.
+fn mark_homes<'b>(
+    marks: &mut [u32; 30],
+    places: &[u8; 256],
+    blocks: &'b [u32; 30],
+    counts: &'b [u32; 30],
+    homes: &'b [u32; 30],
+    n: usize,
+    low: u32,
+    size: u32,
+) -> bool
+    requires { ⌜ (n ≤ 30) × ((x : ℕ) → bytes (now marks) x ≡ 0) × (length (now marks) ≡ 30) × ((x : ℕ) → bytes (now places) x ≤ 30) × Distinct (now blocks) 30 size ⌝ }
+    ensures { λ r. ⌜ Met r (bytes (now (marks .exit))) (now (blocks .entry)) (now (counts .entry)) (now (homes .entry)) n low size ⌝ }
 {
     let mut i: usize = 0;
     while i < n {
@@ -102,29 +101,30 @@ fn mark_homes(marks: &mut [u8; 8192], homes: &[u32; 30], n: usize, low: u32, siz
         if size <= h {
             return false;
         }
-        let at = h as usize;
-        if marks[at] != 2 {
+        let k = holder(places, blocks, h);
+        if 30 <= k {
             return false;
         }
-        marks[at] = 1;
+        if counts[k] != 1 {
+            return false;
+        }
+        if marks[k] != 0 {
+            return false;
+        }
+        marks[k] = 1;
         i += 1;
     }
     true
 }
 
-// No buffer's block has the mark 2 any more.
-fn clear(marks: &[u8; 8192], blocks: &[u32; 30], size: u32) -> bool
-    requires { ⌜ size ≤ 8192 ⌝ }
-    ensures { λ r. ⌜ Decides r (Clear (bytes (now (marks .entry))) (now (blocks .entry)) size) ⌝ }
+// The counts are the marks.
+fn agree<'b>(marks: &'b [u32; 30], counts: &'b [u32; 30]) -> bool
+    ensures { λ r. ⌜ Decides r (Agree (bytes (now (marks .entry))) (now (counts .entry))) ⌝ }
 {
     let mut j: usize = 0;
     while j < 30 {
-        let b = blocks[j];
-        if b < size {
-            let at = b as usize;
-            if marks[at] != 1 {
-                return false;
-            }
+        if counts[j] != marks[j] {
+            return false;
         }
         j += 1;
     }
@@ -140,17 +140,18 @@ pub fn buffered<'b>(
     low: u32,
     size: u32,
 ) -> bool
-    requires { ⌜ (n ≤ 30) × (size ≤ 8192) ⌝ }
+    requires { ⌜ n ≤ 30 ⌝ }
     ensures { λ r. ⌜ Decides r (Buffered (now (blocks .entry)) (now (counts .entry)) (now (homes .entry)) n low size) ⌝ }
 {
-    let mut marks = [0u8; 8192];
-    if !mark_blocks(&mut marks, blocks, counts, size) {
+    let mut places = [0u8; 256];
+    if !place_blocks(&mut places, blocks, size) {
         return false;
     }
-    if !mark_homes(&mut marks, homes, n, low, size) {
+    let mut marks = [0u32; 30];
+    if !mark_homes(&mut marks, &places, blocks, counts, homes, n, low, size) {
         return false;
     }
-    clear(&marks, blocks, size)
+    agree(&marks, counts)
 }
 
 // The first slot below n that is in use for inode i, or n.
@@ -204,37 +205,6 @@ pub fn good_slots<'b>(inums: &'b [u32; 50], refs: &'b [u32; 50], ninodes: u32) -
     true
 }
 
-// Good numbers of a superblock. Each sum is of numbers whose limits were tested.
-pub fn good_numbers(s: Super) -> bool
-    ensures { λ r. ⌜ Decides r (GoodNumbers s) ⌝ }
-{
-    if s.nlog < 12 {
-        return false;
-    }
-    if 30 < s.nlog {
-        return false;
-    }
-    if s.ninodes < 2 {
-        return false;
-    }
-    if 65535 < s.ninodes {
-        return false;
-    }
-    if 8191 < s.size {
-        return false;
-    }
-    if s.inodestart != 2 + s.nlog {
-        return false;
-    }
-    if s.bmapstart != s.inodestart + s.ninodes / 16 + 1 {
-        return false;
-    }
-    if s.size <= s.bmapstart + s.size / 8192 + 1 {
-        return false;
-    }
-    s.nblocks == s.size - (s.bmapstart + s.size / 8192 + 1)
-}
-
 // The eight numbers in block 1: magic and logstart as on every card, the others these.
 fn same_numbers(s: Super, image: &[u8]) -> bool
     requires { ⌜ 1056 ≤ length (now image) ⌝ }
@@ -268,7 +238,7 @@ fn same_numbers(s: Super, image: &[u8]) -> bool
 pub fn on_card(s: Super, image: &[u8]) -> bool
     ensures { λ r. ⌜ Decides r (Card s (now (image .entry))) ⌝ }
 {
-    if !good_numbers(s) {
+    if !superblock::good_numbers(s) {
         return false;
     }
     if image.len() != s.size as usize * 1024 {
@@ -311,7 +281,7 @@ pub fn whole(v: Volume, image: &[u8]) -> bool
     if !good_counts(v.ops, v.recorded, sb.nlog) {
         return false;
     }
-    if !named(&v.table.order) {
+    if !bio::named(&v.table.order) {
         return false;
     }
     if !buffered(

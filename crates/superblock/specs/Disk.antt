@@ -1,8 +1,8 @@
 -- What a card says, apart from where it says it: its inodes, its bits, and the bytes of its data area. What lies out of range reads as a constant
 -- (a free inode, bit 0, byte 0), so that every change of a card is an equation between Disks. Assumes nothing.
-use mathlib.Core.Bool.{cond, _&&_}
-use Prim.Native.Nat.{ℕ, _+_, _*_, _%_}
-use lib.Dec.{ltb}
+use mathlib.Core.Bool.{Bool, true, false, cond, _&&_}
+use Prim.Native.Nat.{ℕ, _+_, _-_, _*_, _/_, _%_, _≤_, _<_}
+use lib.Dec.{leb, ltb, eqb}
 use Rattle.base.specs.Bytes.{Bytes, put}
 use Rattle.base.specs.Bit.{bitAt}
 use Rattle.base.specs.Update.{upd}

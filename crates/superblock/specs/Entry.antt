@@ -2,15 +2,14 @@
 -- A name is padded with zeros to its 14 bytes, and one of 14 bytes or more is cut there with no NUL. Assumes nothing.
 use mathlib.Core.Path.{_≡_, refl, sym, ap, _∙_}
 use mathlib.Core.List.{List}
-use Prim.Native.Nat.{ℕ, zero, suc, _+_, _-_, _*_, _^_, _≤_, _<_}
+use Prim.Native.Nat.{ℕ, _+_, _-_, _≤_, _<_}
 use native.Mathlib.Omega.{arith}
 use native.Mathlib.Decide.{decLt}
-use lib.ListN.{getD, length, List·getD-eq-default}
-use lib.Seq.{ext-getD}
+use lib.ListN.{length, List·getD-eq-default}
 use Rattle.base.specs.First.{tabulate, tabulate-same, tabulate-is, getD-tabulate, length-tabulate}
-use Rattle.base.specs.Bytes.{Bytes, bytes, put, put-in, put-out, put-at, put-more, put-same, is-put}
-use Rattle.base.specs.Number.{le, le-cong, le-digit, digit, get}
-use Rattle.superblock.specs.Record.{digit-le}
+use Rattle.base.specs.Bytes.{Bytes, bytes, put, put-out, put-at, put-more, put-same, is-put}
+use Rattle.base.specs.Number.{le-cong, le-digit, digit, digit-lt, get}
+use Rattle.superblock.specs.Record.{digit-le, Small, put-small}
 pub use Rattle.superblock.specs.declared.Entry.{Entry}
 
 -- the entry at address a
@@ -106,3 +105,17 @@ entry-read-at t u d a part rest e n m = λ i. record {
   inum = (n ∙ le-cong 2 (λ k. bytes t (0 + k)) (λ k. d (a + 0 + k)) (λ k h. part (0 + k) ∙ ap d (omega arith))) i;
   name = (m ∙ tabulate-same (bytes u) (λ k. d (a + 2 + k)) 14 (λ k h. rest k ∙ part (2 + k) ∙ ap d (omega arith))) i;
 }
+
+-- a name of bytes makes an entry of bytes
+pub entryBytes-small : (e : Entry) → Small (bytes (e .name)) → Small (entryBytes e)
+unfolding entryBytes
+entryBytes-small e h = put-small (λ k. bytes (e .name) (k - 2)) 0 2 (digit (e .inum)) (λ k. h (k - 2)) (digit-lt (e .inum))
+
+pub padded-small : (part : List ℕ) → Small (bytes part) → Small (bytes (padded part))
+padded-small part h k = elim (decLt k 14) [
+  | yes l ↦ rw (padded-byte part k l) (h k)
+  | no l ↦ rw (List·getD-eq-default (padded part) 0 (past l)) (omega arith)
+]
+  where
+    past : ¬ (k < 14) → length (padded part) ≤ k
+    past l = omega (arith, padded-length part)

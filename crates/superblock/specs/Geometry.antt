@@ -2,7 +2,7 @@
 -- From document 01, "On the card"; block 0 is boot, block 1 the superblock, then log, inodes, bitmap, data. Assumes nothing.
 use mathlib.Core.Path.{_≡_}
 use mathlib.Core.List.{List}
-use Prim.Native.Nat.{ℕ, _+_, _*_, _/_, _%_, _≤_}
+use Prim.Native.Nat.{ℕ, _+_, _-_, _*_, _/_, _%_, _≤_, _<_}
 use lib.ListN.{length}
 pub use Rattle.superblock.specs.declared.Super.{Super}
 use Rattle.base.specs.Bytes.{Bytes, bytes}

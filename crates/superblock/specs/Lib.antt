@@ -6,3 +6,4 @@ pub mod Entry
 pub mod Blank
 pub mod Disk
 pub mod Stores
+pub mod FieldStores

@@ -1,15 +1,17 @@
 -- The inode record: 64 bytes and what they say. `Node` is an inode as the theorems see it, its addresses a function; `Inode` is the struct that
 -- the code carries, and `node` the one it stands for. Decoding and encoding are inverse to each other. Assumes nothing.
-use mathlib.Core.Path.{_≡_, sym, ap, _∙_}
-use mathlib.Core.Bool.{cond}
-use Prim.Native.Nat.{ℕ, _+_, _-_, _*_, _/_, _%_, _≤_, _<_}
+use mathlib.Core.Path.{_≡_, refl, sym, ap, _∙_, fun-ext}
+use mathlib.Core.Bool.{Bool, true, false, cond}
+use mathlib.Core.List.{List}
+use Prim.Native.Nat.{ℕ, zero, suc, _+_, _-_, _*_, _/_, _%_, _^_, _≤_, _<_}
 use native.Mathlib.Omega.{arith}
 use native.Mathlib.Decide.{decLt}
+use lib.ListN.{getD, length, List·getD-eq-default}
 use lib.Dec.{ltb}
 use borrow.Author.Tests.{lt-ltb, le-ltb}
-use Rattle.base.specs.First.{tabulate}
-use Rattle.base.specs.Bytes.{Bytes, bytes, put}
-use Rattle.base.specs.Number.{le-cong, le-lt, digit, le-digit, get, get-same, get-other}
+use Rattle.base.specs.First.{tabulate, tabulate-same, tabulate-is, getD-tabulate, length-tabulate}
+use Rattle.base.specs.Bytes.{Bytes, bytes, put, put-in, put-out, put-at}
+use Rattle.base.specs.Number.{le, le-cong, le-lt, digit, le-digit, get, get-same, get-other, get-part, get-moved}
 use Rattle.superblock.specs.declared.Inode.{Inode}
 
 -- an inode: kind, device numbers, link count and size, and 13 addresses

@@ -1,19 +1,17 @@
 -- The inode record on the card and in the code: reading gives back what was written, writing gives back what was read, and a change of one field
 -- alone is the record encoded with that field changed. Assumes nothing.
 use mathlib.Core.Path.{_≡_, refl, sym, ap, _∙_, fun-ext}
-use mathlib.Core.Bool.{Bool, true, false, cond}
-use mathlib.Core.Logic.{_≢_}
-use mathlib.Core.List.{List}
-use Prim.Native.Nat.{ℕ, zero, suc, _+_, _-_, _*_, _/_, _%_, _^_, _≤_, _<_}
+use mathlib.Core.Bool.{cond}
+use Prim.Native.Nat.{ℕ, zero, suc, _+_, _-_, _*_, _/_, _%_, _≤_, _<_}
 use native.Mathlib.Omega.{arith}
-use native.Mathlib.Decide.{ℕ-discrete, decLt}
+use native.Mathlib.Decide.{decLt}
 use lib.ListN.{getD, length, set, List·getD-eq-default}
 use lib.Seq.{ext-getD}
 use lib.Dec.{ltb}
 use borrow.Author.Tests.{lt-ltb, le-ltb}
-use Rattle.base.specs.First.{tabulate, tabulate-same, tabulate-is, getD-tabulate, length-tabulate}
-use Rattle.base.specs.Bytes.{Bytes, bytes, put, put-in, put-out, put-at, put-none, put-more, put-over, put-swap, put-same, is-put, Lies, lies, inside, outside}
-use Rattle.base.specs.Number.{le, le-cong, digit, get, get-moved}
+use Rattle.base.specs.First.{tabulate, tabulate-same, getD-tabulate, length-tabulate}
+use Rattle.base.specs.Bytes.{Bytes, put, put-out, put-at, put-more, put-same, is-put, Lies, lies, inside, outside}
+use Rattle.base.specs.Number.{le, le-cong, digit, digit-lt, get}
 use Rattle.base.specs.Update.{upd, upd-same, upd-other, upd-set}
 use Rattle.superblock.specs.declared.Inode.{Inode}
 use Rattle.superblock.specs.Node.{Node, nodeIn, nodeIn-cong, nodeIn-encoded, nodeIn-fits, Fits, encoded, addrBytes, node, inodeAt}
@@ -377,3 +375,30 @@ module _ (t d : Bytes) (a : ℕ) (part : (k : ℕ) → t k ≡ d (a + k)) where
     addrs = (l ∙ tabulate-same (λ p. get t (12 + 4 * p) 4) (λ p. get d (a + 12 + 4 * p) 4) 13
         (λ p h. number-at (12 + 4 * p) 4 ∙ le-cong 4 (λ k. d (a + (12 + 4 * p) + k)) (λ k. d (a + 12 + 4 * p + k)) (λ k q. ap d (omega arith)))) i;
   }
+
+-- ---- bytes stay bytes
+
+-- numbers that a byte holds
+abbrev pub Small : Bytes → Type 0
+Small d = (x : ℕ) → d x < 256
+
+pub put-small : (d : Bytes) (a n : ℕ) (f : Bytes) → Small d → Small f → Small (put d a n f)
+put-small d a n f p q x = go (lies a n x)
+  where
+    go : Lies a n x → put d a n f x < 256
+    go (inside k l z) = rw (z, put-at d a n f k l) (q k)
+    go (outside o) = rw (put-out d a n f x o) (p x)
+
+pub encoded-small : (r : Node) → Small (encoded r)
+encoded-small r = by-field (λ k. encoded r k < 256)
+    (λ k h. rw (encoded-kind r k h) (digit-lt (r .kind) k))
+    (λ k h. rw (encoded-major r k h) (digit-lt (r .major) k))
+    (λ k h. rw (encoded-minor r k h) (digit-lt (r .minor) k))
+    (λ k h. rw (encoded-nlink r k h) (digit-lt (r .nlink) k))
+    (λ k h. rw (encoded-size r k h) (digit-lt (r .size) k))
+    (λ k. rw (encoded-addrs r k) (addr-small k))
+  where
+    addr-small : (k : ℕ) → addrBytes (r .addr) (12 + k) < 256
+    addr-small k =
+        let e : 12 + k ≡ 12 + 4 * (k / 4) + k % 4 = omega arith in
+        rw (e, addr-byte (r .addr) (k / 4) (k % 4) (omega arith)) (digit-lt (r .addr (k / 4)) (k % 4))

@@ -1,20 +1,22 @@
 -- What a store does to a card's Disk: a store of an inode, of a bit and of data bytes each change just that, for any number of bitmap blocks.
 -- Assumes nothing.
 use mathlib.Core.Path.{_≡_, refl, sym, ap, _∙_, fun-ext}
-use mathlib.Core.Bool.{cond, _&&_}
+use mathlib.Core.Logic.{_≢_}
+use mathlib.Core.Bool.{Bool, true, false, cond, _&&_}
 use mathlib.Core.List.{List}
-use Prim.Native.Nat.{ℕ, _+_, _*_, _/_, _%_, _≤_, _<_}
+use Prim.Native.Nat.{ℕ, zero, suc, _+_, _-_, _*_, _/_, _%_, _^_, _≤_, _<_}
 use native.Mathlib.Omega.{arith}
 use native.Mathlib.Decide.{ℕ-discrete, decLt}
 use lib.ListN.{getD, length, set}
-use lib.Dec.{ltb}
+use lib.Dec.{leb, ltb, eqb}
 use borrow.Author.Tests.{lt-ltb, le-ltb}
 use Rattle.base.specs.Bytes.{Bytes, bytes, bytes-set, put, put-in, put-out, put-at}
+use Rattle.base.specs.Number.{le, le-cong, le-lt, digit, get, get-same, get-other}
 use Rattle.base.specs.Bit.{bitAt, withBit, bit-same, bit-other}
 use Rattle.base.specs.Update.{upd, upd-same, upd-other}
 use Rattle.superblock.specs.Geometry.{Super, Laid, bits, dataStart, inodeAddr, bitAddr}
-use Rattle.superblock.specs.Node.{Node, nodeIn-cong, nodeIn-encoded, nodeIn-fits, Fits, if-cong, encoded, noNode}
-use Rattle.superblock.specs.Disk.{inoOf, bitOf, memOf, disk, setIno, setBit, setMem}
+use Rattle.superblock.specs.Node.{Node, nodeIn, nodeIn-cong, nodeIn-encoded, nodeIn-fits, Fits, if-cong, encoded, noNode}
+use Rattle.superblock.specs.Disk.{Disk, inoOf, bitOf, memOf, disk, setIno, setBit, setMem}
 
 -- ---- the image's bytes
 
@@ -26,7 +28,7 @@ putBit g d b t = put d (bitAddr g b) 1 (λ _. withBit (d (bitAddr g b)) (b % 8) 
 
 -- what each part of the disk reads
 module _ (g : Super) (d e : Bytes) where
-  inoOf-cong : (i : ℕ) → (0 < i → i < g .ninodes → (k : ℕ) → k < 64 → d (inodeAddr g i + k) ≡ e (inodeAddr g i + k)) → inoOf g d i ≡ inoOf g e i
+  pub inoOf-cong : (i : ℕ) → (0 < i → i < g .ninodes → (k : ℕ) → k < 64 → d (inodeAddr g i + k) ≡ e (inodeAddr g i + k)) → inoOf g d i ≡ inoOf g e i
   unfolding inoOf
   inoOf-cong i h = elim (decLt 0 i) [
     | yes l ↦ elim (decLt i (g .ninodes)) [
@@ -36,11 +38,11 @@ module _ (g : Super) (d e : Bytes) where
     | no l ↦ rw (le-ltb 0 i (omega arith))
   ]
 
-  bitOf-cong : (b : ℕ) → (b < (bits g) → d (bitAddr g b) ≡ e (bitAddr g b)) → bitOf g d b ≡ bitOf g e b
+  pub bitOf-cong : (b : ℕ) → (b < (bits g) → d (bitAddr g b) ≡ e (bitAddr g b)) → bitOf g d b ≡ bitOf g e b
   unfolding bitOf
   bitOf-cong b h = if-cong b (bits g) (bitAt (d (bitAddr g b)) (b % 8)) (bitAt (e (bitAddr g b)) (b % 8)) (λ l. ap (λ (x : ℕ). bitAt x (b % 8)) (h l))
 
-  memOf-cong : (x : ℕ) → (dataStart g * 1024 ≤ x → d x ≡ e x) → memOf g d x ≡ memOf g e x
+  pub memOf-cong : (x : ℕ) → (dataStart g * 1024 ≤ x → d x ≡ e x) → memOf g d x ≡ memOf g e x
   unfolding memOf
   memOf-cong x h = elim (decLt x (dataStart g * 1024)) [
     | yes l ↦ rw (lt-ltb x (dataStart g * 1024) l)

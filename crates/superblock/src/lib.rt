@@ -8,13 +8,14 @@ ghost use Rattle.base.specs.Bytes.{bytes, put};
 ghost use Rattle.base.specs.Number.{get as numAt};
 ghost use Rattle.base.specs.First.{tabulate};
 ghost use Rattle.base.specs.Decide.{Decides};
-ghost use Rattle.superblock.specs.Geometry.{Laid, GoodNumbers, Good, superOf};
+ghost use Rattle.superblock.specs.Geometry.{Laid, GoodNumbers, Good, superOf, inodeBlock, inodeByte};
 ghost use Rattle.superblock.specs.Node.{node, encoded, addrBytes, inodeAt};
 ghost use Rattle.superblock.specs.Record.{sized, linked, addressed};
 ghost use Rattle.superblock.specs.Entry.{entryAt, entryBytes, padded as paddedName};
 ghost use Rattle.superblock.specs.Blank.{Blank};
 
 // The superblock's numbers. The log starts at block 2 on every good card, so that number is not kept.
+#[repr(C)]
 pub struct Super {
     pub size: u32,
     pub nblocks: u32,
@@ -109,6 +110,20 @@ pub fn good(image: &[u8]) -> bool
         return false;
     }
     image.len() == base::place(s.size) * 1024
+}
+
+// Where inode i is: its block, and the byte in it.
+pub fn inode_block(s: Super, i: u32) -> u32
+    requires { ⌜ s .inodestart < 65536 ⌝ }
+    ensures { λ r. ⌜ r ≡ inodeBlock s i ⌝ }
+{
+    s.inodestart + i / 16
+}
+
+pub fn inode_byte(i: u32) -> usize
+    ensures { λ r. ⌜ r ≡ inodeByte i ⌝ }
+{
+    64 * (i % 16) as usize
 }
 
 // The 13 addresses of a record that starts where the slice does.

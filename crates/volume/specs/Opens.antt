@@ -6,7 +6,7 @@ use mathlib.Core.List.{List}
 use Prim.Native.Nat.{ℕ, _+_, _≤_, _<_}
 use native.Mathlib.Omega.{arith}
 use native.Mathlib.Decide.{ℕ-discrete, decLt}
-use lib.ListN.{getD, length, set}
+use lib.ListN.{getD, length, set, length-set}
 use borrow.Author.Tests.{eq-eqb, ne-eqb}
 use Rattle.base.specs.Bytes.{bytes}
 use Rattle.base.specs.Decide.{Decides, so, alike}
@@ -136,21 +136,29 @@ module _ (v : Volume) (image cache path : List ℕ) (h : Handle) (w : Whole v im
             ∙ ap {B = Left Handle} (λ (x : ℕ). (opened v k i, done (record { slot = x; inum = i }))) y
             ∙ ap {B = Left Handle} (λ (x : ℕ). (opened v x i, done (record { slot = x; inum = i }))) z
 
--- ---- the next state is whole. A volume's two arrays of slots have 50 places, as their type says
+-- ---- the next state is whole, and the handle good in it
 
-pub open-whole : (v : Volume) (image cache path : List ℕ) (h : Handle) (l : Left Handle) → length (v .slots .inums) ≡ 50 → length (v .slots .refs) ≡ 50
-    → Whole v image → OpenGives v image cache path h l → Whole (l .0) image
-open-whole v image cache path h l li lr w (inl g) = absurd (g .0 w)
-open-whole v image cache path h l li lr w (inr (_, inl g)) = rw (g .1) w
-open-whole v image cache path h l li lr w (inr (_, inr (_, inl g))) = rw (g .1) w
-open-whole v image cache path h l li lr w (inr (_, inr (_, inr (_, inl g)))) = rw (g .1) w
-open-whole v image cache path h l li lr w (inr (_, inr (_, inr (_, inr (_, inl g))))) = rw (g .1) w
-open-whole v image cache path h l li lr w (inr (_, inr (_, inr (_, inr (_, inr (_, inl g)))))) = rw (g .1) w
-open-whole v image cache path h l li lr w (inr (_, inr (_, inr (_, inr (_, inr (_, inr (_, inl g))))))) = rw (g .1) w
-open-whole v image cache path h l li lr w (inr (_, inr (_, inr (_, inr (_, inr (_, inr (_, inr (_, inl g)))))))) = rw (g .1) w
-open-whole v image cache path h l li lr w (inr (_, inr (_, inr (_, inr (s, inr (u, inr (d, inr (n, inr (m, g))))))))) =
-    rw g (slots-whole v image _ _ w (good-more (v .slots .inums) (v .slots .refs) (v .sb .ninodes) (reached (walked v image cache path h)) li lr (w .slots) (omega (arith, arrived .some)) (arrived .inside) room-slot room-count))
+pub open-whole : (v : Volume) (image cache path : List ℕ) (h : Handle) (l : Left Handle) → Whole v image → OpenGives v image cache path h l → Whole (l .0) image
+open-whole v image cache path h l w (inl g) = absurd (g .0 w)
+open-whole v image cache path h l w (inr (_, inl g)) = rw (g .1) w
+open-whole v image cache path h l w (inr (_, inr (_, inl g))) = rw (g .1) w
+open-whole v image cache path h l w (inr (_, inr (_, inr (_, inl g)))) = rw (g .1) w
+open-whole v image cache path h l w (inr (_, inr (_, inr (_, inr (_, inl g))))) = rw (g .1) w
+open-whole v image cache path h l w (inr (_, inr (_, inr (_, inr (_, inr (_, inl g)))))) = rw (g .1) w
+open-whole v image cache path h l w (inr (_, inr (_, inr (_, inr (_, inr (_, inr (_, inl g))))))) = rw (g .1) w
+open-whole v image cache path h l w (inr (_, inr (_, inr (_, inr (_, inr (_, inr (_, inr (_, inl g)))))))) = rw (g .1) w
+open-whole v image cache path h l w (inr (_, inr (_, inr (_, inr (s, inr (u, inr (d, inr (n, inr (m, g))))))))) =
+    rw g
+    (slots-whole v image (set (v .slots .inums) k i) (set (v .slots .refs) k (getD (v .slots .refs) k 0 + 1)) w (length-set (v .slots .inums) k i ∙ w .lengths .inums)
+    (length-set (v .slots .refs) k (getD (v .slots .refs) k 0 + 1) ∙ w .lengths .refs)
+    (good-more (v .slots .inums) (v .slots .refs) (v .sb .ninodes) i (w .lengths .inums) (w .lengths .refs) (w .slots) (omega (arith, arrived .some)) (arrived .inside) room-slot room-count))
   where
+    i : ℕ
+    i = reached (walked v image cache path h)
+
+    k : ℕ
+    k = slotIn v (reached (walked v image cache path h))
+
     arrived : From (v .sb) (reached (walked v image cache path h))
     arrived = go (walked v image cache path h) refl
       where

@@ -3,3 +3,6 @@ pub mod Step
 pub mod Walks
 pub mod Parents
 pub mod Reached
+pub mod Ends
+pub mod Cases
+pub mod Agree

@@ -2,15 +2,16 @@
 -- the parent (reading 10). A path without a component has no parent (7, reading 11), and no inode is looked at then. Assumes nothing.
 use mathlib.Core.Path.{_≡_, refl, ap, sym, _∙_}
 use mathlib.Core.Bool.{Bool, true, false, cond}
-use mathlib.Core.List.{List}
-use Prim.Native.Nat.{ℕ, zero, suc, _+_, _-_, _*_, _<_, _≤_}
+use mathlib.Core.List.{List, [], _∷_}
+use Prim.Native.Nat.{ℕ, zero, suc, _+_, _-_, _<_, _≤_}
 use native.Mathlib.Omega.{arith}
 use lib.ListN.{take, drop, length, length-take, length-drop}
 use lib.Seq.{take-all, drop-drop}
 use lib.Dec.{eqb}
-use borrow.Author.Tests.{eq-eqb, ne-eqb, eqb-true}
+use borrow.Author.Tests.{eq-eqb, ne-eqb}
 use Rattle.base.specs.Bytes.{Bytes}
 use Rattle.base.specs.Decide.{Decides}
+use Rattle.base.specs.Refusals.{number}
 use Rattle.base.specs.declared.Refusal.{Refusal}
 use Rattle.base.specs.declared.Refusal.the-variants.{Unfit, NotDirectory, NoName}
 use Rattle.superblock.specs.declared.Super.{Super}
@@ -22,7 +23,7 @@ use Rattle.inode.specs.FitOf.{fitOf, fitOf-decides, decides-same}
 use Rattle.path.specs.Parts.{partOf, isEnd, part-within}
 use Rattle.path.specs.declared.Part.{Part}
 use Rattle.path.specs.declared.Part.the-variants.{Name, End}
-use Rattle.walk.specs.Step.{stepOf, step-led, From}
+use Rattle.walk.specs.Step.{stepOf, step-led}
 use Rattle.walk.specs.declared.Step.{Step}
 use Rattle.walk.specs.declared.Step.the-variants.{To, Stay, No}
 use Rattle.walk.specs.declared.Parent.{Parent}
@@ -55,6 +56,11 @@ parentFrom s v i a l = parentIn s v (suc (length l)) i a l
 -- the parent of what the path l names, from inode i on
 abbrev pub parentOf : Super → Disk → ℕ → List ℕ → Parent
 parentOf s v i l = parentFrom s v i 0 l
+
+-- its answer as the paper's number with its values: 0, the directory and the last component's place, or the number of the refusal
+abbrev pub parentGiven : Parent → List ℕ
+parentGiven (Dir i b e) = 0 ∷ i ∷ b ∷ e ∷ []
+parentGiven (Not r) = number r ∷ []
 
 -- ---- laws
 

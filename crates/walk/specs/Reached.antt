@@ -1,11 +1,11 @@
 -- What a caller knows of a walk's answer: the inode reached is one of the card's and fit; the parent is one, fit and a directory, and the last
 -- component lies in the path; and a walk refuses with 5, 6 and 7 only. Assumes nothing.
-use mathlib.Core.Path.{_≡_, refl, ap, sym, _∙_}
+use mathlib.Core.Path.{_≡_, refl, sym, _∙_}
 use mathlib.Core.Bool.{Bool, true, false, cond}
 use mathlib.Core.List.{List}
-use Prim.Native.Nat.{ℕ, zero, suc, _+_, _-_, _*_, _<_, _≤_}
+use Prim.Native.Nat.{ℕ, zero, suc, _+_, _-_, _<_, _≤_}
 use native.Mathlib.Omega.{arith}
-use lib.ListN.{take, drop, length, length-drop}
+use lib.ListN.{drop, length, length-drop}
 use lib.Dec.{eqb, ltb}
 use borrow.Author.Tests.{eqb-true}
 use Rattle.base.specs.declared.Refusal.{Refusal}
@@ -26,9 +26,7 @@ use Rattle.walk.specs.Walks.{onward, walkOf, walk-is}
 use Rattle.walk.specs.Parents.{lastIn, upward, climb, parentFrom, parentOf, parent-is}
 use Rattle.walk.specs.declared.Step.{Step}
 use Rattle.walk.specs.declared.Step.the-variants.{To, Stay, No}
-use Rattle.walk.specs.declared.Walk.{Walk}
 use Rattle.walk.specs.declared.Walk.the-variants.{Reached, Refused}
-use Rattle.walk.specs.declared.Parent.{Parent}
 use Rattle.walk.specs.declared.Parent.the-variants.{Dir, Not}
 
 no-case : (A : Type 0) → _≡_ {A = ℕ} 0 1 → A
@@ -121,7 +119,7 @@ module _ (s : Super) (v : Disk) where
     pub ordered : b < e
     pub inside : e ≤ a + length l
 
-  last-is : (i c d : ℕ) (j b e : ℕ) → From s i → lastIn s v i c d ≡ Dir j b e → (i ≡ j) × (c ≡ b) × (d ≡ e) × Fit s v (v .ino i) × (v .ino i .kind ≡ 1)
+  pub last-is : (i c d : ℕ) (j b e : ℕ) → From s i → lastIn s v i c d ≡ Dir j b e → (i ≡ j) × (c ≡ b) × (d ≡ e) × Fit s v (v .ino i) × (v .ino i .kind ≡ 1)
   unfolding lastIn
   last-is i c d j b e f h = go (fitOf s v (v .ino i)) refl
     where
@@ -180,8 +178,11 @@ module _ (s : Super) (v : Disk) where
               }
           last false x = step rec (stepOf s v i l) refl (rw x at y)
 
+  pub parent-there-at : (i a : ℕ) (l : List ℕ) (j b e : ℕ) → From s i → parentFrom s v i a l ≡ Dir j b e → Parental l a j b e
+  parent-there-at i a l j b e f z = there (suc (length l)) i a l j b e (omega arith) f z
+
   pub parent-there : (i : ℕ) (l : List ℕ) (j b e : ℕ) → From s i → parentOf s v i l ≡ Dir j b e → Parental l 0 j b e
-  parent-there i l j b e f z = there (suc (length l)) i 0 l j b e (omega arith) f z
+  parent-there i l j b e f z = parent-there-at i 0 l j b e f z
 
   parent-only-in : (n i a : ℕ) (l : List ℕ) (x : Refusal) → length l < n → parentFrom s v i a l ≡ Not x → OfWalk x
   parent-only-in zero i a l x h z = absurd (omega arith)

@@ -3,22 +3,23 @@
 use mathlib.Core.Path.{_≡_, refl, ap, sym, _∙_}
 use mathlib.Core.Bool.{Bool, true, false, cond}
 use mathlib.Core.List.{List}
-use Prim.Native.Nat.{ℕ, zero, suc, _+_, _-_, _*_, _<_, _≤_}
+use Prim.Native.Nat.{ℕ, _-_, _<_, _≤_}
 use native.Mathlib.Omega.{arith}
-use lib.ListN.{take, drop, length}
+use lib.ListN.{length}
 use lib.Dec.{eqb, ltb}
 use borrow.Author.Tests.{eq-eqb, ne-eqb, lt-ltb, le-ltb, ltb-true}
 use Rattle.base.specs.Bytes.{Bytes}
 use Rattle.base.specs.Decide.{Decides}
-use Rattle.base.specs.declared.Refusal.{Refusal}
 use Rattle.base.specs.declared.Refusal.the-variants.{Unfit, NotDirectory, NoName}
 use Rattle.superblock.specs.declared.Super.{Super}
 use Rattle.superblock.specs.declared.Inode.{Inode}
+use Rattle.superblock.specs.Geometry.{GoodNumbers}
 use Rattle.superblock.specs.Node.{Node, node}
 use Rattle.superblock.specs.Disk.{Disk, disk, inoOf}
 use Rattle.rules.specs.Fit.{Fit}
 use Rattle.inode.specs.FitOf.{fitOf, fitOf-decides, decides-same}
-use Rattle.path.specs.Parts.{partOf, partIn, part-within}
+use Rattle.path.specs.Parts.{pathLen, partOf, partIn, part-within}
+use Rattle.path.specs.Cut.{part-before}
 use Rattle.path.specs.Names.{nameOf}
 use Rattle.path.specs.declared.Part.{Part}
 use Rattle.path.specs.declared.Part.the-variants.{Name, End}
@@ -48,11 +49,16 @@ pub record From (s : Super) (i : ℕ) : Type 0 where
   pub some : 0 < i
   pub inside : i < s .ninodes
 
+-- the root is one
+pub from-root : (s : Super) → GoodNumbers s → From s 1
+from-root s g = record { some = omega arith; inside = omega (arith, g .inodes-least) }
+
 -- what a step says of the number that it leads to, and of the bytes that it took
 pub record Led (s : Super) (l : List ℕ) (n e : ℕ) : Type 0 where
   pub from : From s n
   pub within : e ≤ length l
   pub took : 0 < e
+  pub used : e ≤ pathLen l
 
 -- ---- laws
 
@@ -60,9 +66,9 @@ no-case : (A : Type 0) → _≡_ {A = ℕ} 0 1 → A
 no-case A z = absurd (omega arith)
 
 module _ (s : Super) (v : Disk) (i : ℕ) (l : List ℕ) where
-  entered-to : (name : Bytes) (e : ℕ) → e ≤ length l → 0 < e → (r : Found) → lookup v i name ≡ r → (n k : ℕ) → entered s e r ≡ To n k → Led s l n k
-  entered-to name e w b Missing q n k h = no-case _ (cc)
-  entered-to name e w b (At m x) q n k h = go (ltb m (s .ninodes)) refl
+  entered-to : (name : Bytes) (e : ℕ) → e ≤ length l → 0 < e → e ≤ pathLen l → (r : Found) → lookup v i name ≡ r → (n k : ℕ) → entered s e r ≡ To n k → Led s l n k
+  entered-to name e w b u Missing q n k h = no-case _ (cc)
+  entered-to name e w b u (At m x) q n k h = go (ltb m (s .ninodes)) refl
     where
       go : (t : Bool) → ltb m (s .ninodes) ≡ t → Led s l n k
       go true z =
@@ -73,6 +79,7 @@ module _ (s : Super) (v : Disk) (i : ℕ) (l : List ℕ) where
             from = record { some = omega (arith, lookup-there v i name m x q .live); inside = omega (arith, ltb-true m (s .ninodes) z) };
             within = omega arith;
             took = omega arith;
+            used = omega arith;
           }
       go false z = let h' : No Unfit ≡ To n k = (rw z at h) in no-case _ (cc)
 
@@ -83,7 +90,7 @@ module _ (s : Super) (v : Disk) (i : ℕ) (l : List ℕ) where
       go : (t : Bool) → eqb (v .ino i .kind) 1 ≡ t → Led s l n k
       go true x =
           let w = part-within l b e q in
-          entered-to (nameOf (partIn l b e)) e (w .inside) (omega (arith, w .ordered)) (lookup v i (nameOf (partIn l b e))) refl n k (rw x at h)
+          entered-to (nameOf (partIn l b e)) e (w .inside) (omega (arith, w .ordered)) (part-before l b e q) (lookup v i (nameOf (partIn l b e))) refl n k (rw x at h)
       go false x = let h' : No NotDirectory ≡ To n k = (rw x at h) in no-case _ (cc)
 
   pub step-led : (n k : ℕ) → stepOf s v i l ≡ To n k → Led s l n k

@@ -1,12 +1,12 @@
 -- The walk of a path: steps until no component is left or one is refused. `walk-is` is the equation that it satisfies, whatever the path;
 -- the number of steps in its definition is more than any path takes. Assumes nothing.
 use mathlib.Core.Path.{_≡_, refl, ap, sym, _∙_}
-use mathlib.Core.Bool.{Bool, true, false, cond}
-use mathlib.Core.List.{List}
-use Prim.Native.Nat.{ℕ, zero, suc, _+_, _-_, _*_, _<_, _≤_}
+use mathlib.Core.List.{List, [], _∷_}
+use Prim.Native.Nat.{ℕ, zero, suc, _+_, _-_, _<_}
 use native.Mathlib.Omega.{arith}
 use lib.ListN.{take, drop, length, length-drop}
 use lib.Seq.{take-all, drop-drop}
+use Rattle.base.specs.Refusals.{number}
 use Rattle.base.specs.declared.Refusal.{Refusal}
 use Rattle.superblock.specs.declared.Super.{Super}
 use Rattle.superblock.specs.Disk.{Disk}
@@ -30,6 +30,11 @@ walkIn s v (suc n) i l = onward (λ j m. walkIn s v n j m) i l (stepOf s v i l)
 -- the walk of the path l from inode i. A step takes a byte of the path at least, so that no walk takes more steps than l has bytes, and one
 unfoldable pub walkOf : Super → Disk → ℕ → List ℕ → Walk
 walkOf s v i l = walkIn s v (suc (length l)) i l
+
+-- a walk's answer as the paper's number with its value: 0 and the inode reached, or the number of the refusal
+abbrev pub given : Walk → List ℕ
+given (Reached i) = 0 ∷ i ∷ []
+given (Refused r) = number r ∷ []
 
 -- ---- laws
 

@@ -1,4 +1,4 @@
--- `bio::buffer_of` meets its contract. The loop's invariant: no buffer passed holds the block with a reference. Assumes nothing.
+-- The search for a buffer that holds a block: none of those passed does.
 use borrow.Author.Count.{below-more}
 use mathlib.Core.Path.{_≡_, sym}
 use mathlib.Core.Bool.{false}

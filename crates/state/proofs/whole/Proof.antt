@@ -31,7 +31,7 @@ cast-buffered : tie.Need-cast-buffered
 cast-buffered c = search needs
 
 buffered-requires : tie.Need-buffered-requires
-buffered-requires c κs = (omega (arith, passed (c .before .before .before .before .before .before .before .before .before .good-counts .ensures) (c .before .before .before .before .before .before .before .before .if3 .left) .room), omega (arith, card-numbers _ _ (passed (c .before .before .before .before .before .before .before .before .before .before .before .on-card .ensures) (c .before .before .before .before .before .before .before .before .before .before .if2 .left)) .size-most))
+buffered-requires c κs = omega (arith, passed (c .before .before .before .before .before .before .before .before .before .good-counts .ensures) (c .before .before .before .before .before .before .before .before .if3 .left) .room)
 
 returns-5 : tie.Need-returns-5
 returns-5 c = not-so (λ g. denied (c .before .buffered .ensures) (c .if5 .taken) (g .buffered))
@@ -47,6 +47,7 @@ returns-6 c = alike (λ s. record {
   buffered = passed (c .before .before .before .before .before .buffered .ensures) (c .before .before .before .before .if5 .left);
   order = passed (c .before .before .before .before .before .before .before .before .before .before .before .named .ensures) (c .before .before .before .before .before .before .before .before .before .before .if4 .left);
   slots = s;
+  lengths = let g = c .before .before .before .before .before .before .before .before .before .before .before .before .before .before .before .before .before .before .before .before .before .good .0 in record { blocks = search needs; counts = search needs; order = search needs; homes = search needs; inums = search needs; refs = let k = g .1 .1 .1 .1 in search needs };
 }) (λ g. g .slots) (c .good-slots .ensures)
 
 pub whole-spec : {M : Type 1} → statement M

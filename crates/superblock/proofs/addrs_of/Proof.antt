@@ -1,17 +1,15 @@
+-- `superblock::addrs_of` meets its contract: the loop has filled the first p addresses as they stand on the card (`filled-more`).
 use Prim.Native.Nat.{ℕ, _+_, _*_, _-_, _<_, _≤_}
-use mathlib.Core.Path.{_≡_, refl, ap, sym, _∙_}
+use mathlib.Core.Path.{_≡_}
 use native.Mathlib.Omega.{arith}
 use lib.ListN.{length, getD}
 use denote.Ref.{now}
 use Rattle.base.specs.Bytes.{bytes}
 use Rattle.base.specs.Number.{get}
-use Rattle.base.specs.First.{tabulate, tabulate-is, filled-more}
+use Rattle.base.specs.First.{tabulate-is, filled-more}
 use borrow.Author.Needs.{needs}
 use Rattle.superblock.proofs.addrs_of.Statement.{statement}
 use Rattle.superblock.proofs.addrs_of.Tie as tie
-use Rattle.superblock.proofs.addrs_of.Reads as reads
-use Rattle.superblock.proofs.addrs_of.Lts as lts
-use Rattle.base.proofs.get_u32.Reads as get-u32-reads
 
 abbrev Inv-loop : tie.InvT-loop
 Inv-loop s addrs₀ p₀ addrs p = (p ≤ 13) × (length addrs ≡ 13) × ((j : ℕ) → j < p → getD addrs j 0 ≡ get (bytes s) (12 + 4 * j) 4)
@@ -19,43 +17,33 @@ Inv-loop s addrs₀ p₀ addrs p = (p ≤ 13) × (length addrs ≡ 13) × ((j : 
 abbrev μ-loop : tie.MeasureT-loop
 μ-loop s addrs₀ p₀ addrs p = 13 - p
 
--- src/lib.rt:119:5
 loop-holds : tie.Need-loop-holds Inv-loop μ-loop
 loop-holds c = (search needs, search needs, λ j h. absurd (omega arith))
 
--- src/lib.rt:120:42
 mul-get-u32 : tie.Need-mul-get-u32 Inv-loop μ-loop
 mul-get-u32 c = search needs
 
--- src/lib.rt:120:37
 add-get-u32 : tie.Need-add-get-u32 Inv-loop μ-loop
 add-get-u32 c = search needs
 
--- src/lib.rt:120:20
 get-u32-requires : tie.Need-get-u32-requires Inv-loop μ-loop
 get-u32-requires c κs = search needs
 
--- src/lib.rt:120:9
 mul-addrs : tie.Need-mul-addrs Inv-loop μ-loop
 mul-addrs c = search needs
 
--- src/lib.rt:120:9
 array-write-addrs : tie.Need-array-write-addrs Inv-loop μ-loop
 array-write-addrs c = search needs
 
--- src/lib.rt:121:9
 add-p : tie.Need-add-p Inv-loop μ-loop
 add-p c = search needs
 
--- src/lib.rt:119:5
 loop-less : tie.Need-loop-less Inv-loop μ-loop
 loop-less c = search needs
 
--- src/lib.rt:119:5
 loop-again : tie.Need-loop-again Inv-loop μ-loop
 loop-again c = (search needs, search needs, filled-more (λ j. get (bytes (now (c .before .before .before .before .args .s))) (12 + 4 * j) 4) (c .before .before .loop .addrs) (c .before .before .loop .p) _ (search needs) (c .get-u32 .ensures) (c .before .before .loop .inv .2))
 
--- src/lib.rt:114:1
 returns : tie.Need-returns Inv-loop μ-loop
 returns c = tabulate-is _ 13 _ (c .before .loop .inv .1) (λ j h. c .before .loop .inv .2 j (omega arith))
 

@@ -1,60 +1,44 @@
-use Prim.Native.Nat.{ℕ, _+_, _*_}
+-- `superblock::good` meets its contract: the magic number, logstart and the numbers are tested as they stand on the card, and the length decides what is left.
+use Prim.Native.Nat.{ℕ, _*_}
 use denote.Ref.{now}
 use lib.ListN.{length}
 use Rattle.base.specs.Bytes.{bytes}
 use Rattle.base.specs.Number.{get}
 use Rattle.superblock.specs.Geometry.{Super, superOf}
-use mathlib.Core.Path.{_≡_, refl, ap, sym, _∙_}
-use native.Mathlib.Omega.{arith}
-use Rattle.base.specs.Decide.{so, not-so, alike, denied, passed, eq-decides}
+use mathlib.Core.Path.{_≡_, ap, sym, _∙_}
+use Rattle.base.specs.Decide.{not-so, alike, denied, passed, eq-decides}
 use Rattle.superblock.specs.Geometry.{GoodNumbers}
 use borrow.Author.Needs.{needs}
 use Rattle.superblock.proofs.good.Statement.{statement}
 use Rattle.superblock.proofs.good.Tie as tie
-use Rattle.superblock.proofs.good.Reads as reads
-use Rattle.superblock.proofs.good.Lts as lts
-use Rattle.base.proofs.get_u32.Reads as get-u32-reads
-use Rattle.base.proofs.place.Reads as place-reads
-use Rattle.superblock.proofs.good_numbers.Reads as good-numbers-reads
-use Rattle.superblock.proofs.super_of.Reads as super-of-reads
 
--- src/lib.rt:100:8
 get-u32-requires : tie.Need-get-u32-requires
 get-u32-requires c κs = search needs
 
--- src/lib.rt:101:9
 returns : tie.Need-returns
 returns c = not-so (λ g. c .if1 .taken (c .before .get-u32 .ensures ∙ g .magic))
 
--- src/lib.rt:103:8
 get-u32-requires-2 : tie.Need-get-u32-requires-2
 get-u32-requires-2 c κs = search needs
 
--- src/lib.rt:104:9
 returns-2 : tie.Need-returns-2
 returns-2 c = not-so (λ g. c .if2 .taken (c .before .get-u322 .ensures ∙ g .logstart))
 
--- src/lib.rt:106:9
 super-of-requires : tie.Need-super-of-requires
 super-of-requires c κs = search needs
 
--- src/lib.rt:107:9
 good-numbers-requires : tie.Need-good-numbers-requires
 good-numbers-requires c κs = search needs
 
--- src/lib.rt:108:9
 returns-3 : tie.Need-returns-3
 returns-3 c = not-so (λ g. denied (c .before .good-numbers .ensures) (c .if3 .taken) (rw (c .before .before .super-of .ensures) (g .numbers)))
 
--- src/lib.rt:110:20
 place-requires : tie.Need-place-requires
 place-requires c κs = search needs
 
--- src/lib.rt:110:20
 mul-result : tie.Need-mul-result
 mul-result c = search needs
 
--- src/lib.rt:97:1
 returns-4 : tie.Need-returns-4
 returns-4 c =
     let image = now (c .before .before .before .before .before .before .before .before .before .args .image) in

@@ -1,37 +1,28 @@
+-- `superblock::good_numbers` meets its contract: a limit that is broken refutes its field, and `laid` decides what is left.
 use native.Mathlib.Omega.{arith}
-use Rattle.base.specs.Decide.{so, not-so, alike}
+use Rattle.base.specs.Decide.{not-so, alike}
 use borrow.Author.Needs.{needs}
 use Rattle.superblock.proofs.good_numbers.Statement.{statement}
 use Rattle.superblock.proofs.good_numbers.Tie as tie
-use Rattle.superblock.proofs.good_numbers.Reads as reads
-use Rattle.superblock.proofs.good_numbers.Lts as lts
-use Rattle.superblock.proofs.laid.Reads as laid-reads
 
--- src/lib.rt:79:9
 returns : tie.Need-returns
 returns c = not-so (λ h. omega arith)
 
--- src/lib.rt:82:9
 returns-2 : tie.Need-returns-2
 returns-2 c = not-so (λ h. omega arith)
 
--- src/lib.rt:85:9
 returns-3 : tie.Need-returns-3
 returns-3 c = not-so (λ h. omega arith)
 
--- src/lib.rt:88:9
 returns-4 : tie.Need-returns-4
 returns-4 c = not-so (λ h. omega arith)
 
--- src/lib.rt:91:9
 returns-5 : tie.Need-returns-5
 returns-5 c = not-so (λ h. omega arith)
 
--- src/lib.rt:93:5
 laid-requires : tie.Need-laid-requires
 laid-requires c κs = search needs
 
--- src/lib.rt:75:1
 returns-6 : tie.Need-returns-6
 returns-6 c = alike (λ h. record { laid = h; log-least = c .before .before .before .before .before .before .before .before .before .if1 .left; log-most = c .before .before .before .before .before .before .before .if2 .left; inodes-least = c .before .before .before .before .before .if3 .left; inodes-most = c .before .before .before .if4 .left; size-most = c .before .if5 .left }) (λ g. g .laid) (c .laid .ensures)
 

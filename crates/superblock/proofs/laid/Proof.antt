@@ -1,50 +1,39 @@
-use Prim.Native.Nat.{ℕ, _+_, _-_, _/_}
+-- `superblock::laid` meets its contract: a test that fails refutes its field of `Laid`, and the last one decides what is left.
+use Prim.Native.Nat.{_+_, _-_, _/_}
 use mathlib.Core.Path.{_≡_}
 use native.Mathlib.Omega.{arith}
-use Rattle.base.specs.Decide.{so, not-so, alike, eq-decides}
+use Rattle.base.specs.Decide.{not-so, alike, eq-decides}
 use borrow.Author.Needs.{needs}
 use Rattle.superblock.proofs.laid.Statement.{statement}
 use Rattle.superblock.proofs.laid.Tie as tie
-use Rattle.superblock.proofs.laid.Reads as reads
-use Rattle.superblock.proofs.laid.Lts as lts
 
--- src/lib.rt:61:24
 add-if1 : tie.Need-add-if1
 add-if1 c = search needs
 
--- src/lib.rt:62:9
 returns : tie.Need-returns
 returns c = not-so (λ h. omega arith)
 
--- src/lib.rt:64:23
 add-if2 : tie.Need-add-if2
 add-if2 c = search needs
 
--- src/lib.rt:64:23
 add-if2-2 : tie.Need-add-if2-2
 add-if2-2 c = search needs
 
--- src/lib.rt:65:9
 returns-2 : tie.Need-returns-2
 returns-2 c = not-so (λ h. omega arith)
 
--- src/lib.rt:67:17
 add-start : tie.Need-add-start
 add-start c = search needs
 
--- src/lib.rt:67:17
 add-start-2 : tie.Need-add-start-2
 add-start-2 c = search needs
 
--- src/lib.rt:69:9
 returns-3 : tie.Need-returns-3
 returns-3 c = not-so (λ h. omega arith)
 
--- src/lib.rt:71:18
 sub-result : tie.Need-sub-result
 sub-result c = search needs
 
--- src/lib.rt:57:1
 returns-4 : tie.Need-returns-4
 returns-4 c =
     let s = c .before .before .before .before .before .before .before .before .before .before .before .before .before .args .s in

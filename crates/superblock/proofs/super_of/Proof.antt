@@ -1,4 +1,4 @@
--- `superblock::super_of` meets its contract. Each field is the number that was read. Assumes nothing.
+-- `superblock::super_of` meets its contract: each number is what `get_u32` reads at its place.
 use borrow.Author.Needs.{needs}
 use Rattle.superblock.proofs.super_of.Statement.{statement}
 use Rattle.superblock.proofs.super_of.Tie as tie

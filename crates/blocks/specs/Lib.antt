@@ -1,0 +1,3 @@
+-- S3 and S4 as the code tests them.
+pub mod Fits
+pub mod Marks

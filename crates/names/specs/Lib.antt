@@ -1,0 +1,2 @@
+-- S5 as the code tests it.
+pub mod Names

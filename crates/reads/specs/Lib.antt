@@ -1,0 +1,2 @@
+-- What the checker's readers say.
+pub mod Read
