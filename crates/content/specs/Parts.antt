@@ -1,14 +1,13 @@
 -- An inode's content as it is copied: each byte from the block that its slot names, in parts that end where a block does. Assumes nothing.
-use mathlib.Core.Path.{_≡_, refl, sym, ap, _∙_}
+use mathlib.Core.Path.{_≡_, sym, ap, _∙_}
 use mathlib.Core.List.{List}
 use Prim.Native.Nat.{ℕ, _+_, _-_, _*_, _/_, _%_, _≤_, _<_, min}
 use native.Mathlib.Omega.{arith}
 use lib.ListN.{length}
-use Rattle.base.specs.Bytes.{Bytes, bytes, put, put-same, put-more, put-none}
+use Rattle.base.specs.Bytes.{Bytes, bytes, put, put-same, put-more}
 use Rattle.superblock.specs.declared.Super.{Super}
 use Rattle.superblock.specs.declared.Inode.{Inode}
 use Rattle.superblock.specs.Node.{Node, node}
-use Rattle.superblock.specs.Disk.{disk}
 use Rattle.bio.specs.Seen.{seen}
 use Rattle.bio.specs.Part.{IsBlock}
 use Rattle.rules.specs.Fit.{Fit, slot, slotOf, blocks as blocksOf}

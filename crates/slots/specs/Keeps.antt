@@ -1,19 +1,16 @@
 -- Good slots stay good when a reference is returned and when one is taken. Assumes nothing.
-use mathlib.Core.Path.{_≡_, refl, sym, ap, _∙_}
-use mathlib.Core.Bool.{Bool, true, false, cond}
+use mathlib.Core.Path.{_≡_, sym, ap, _∙_}
 use mathlib.Core.List.{List}
 use Prim.Native.Nat.{ℕ, _+_, _-_, _≤_, _<_}
 use native.Mathlib.Omega.{arith}
 use native.Mathlib.Decide.{ℕ-discrete, decLt}
 use lib.ListN.{length, getD, set, length-set, List·getD-eq-default}
 use lib.Seq.{getD-set-same, getD-set-other}
-use lib.Dec.{eqb, ltb}
-use borrow.Author.Tests.{eqb-true}
 use Rattle.base.specs.First.{first, first-before, first-holds}
 use Rattle.base.specs.Decide.{never}
 use Rattle.state.specs.Whole.{GoodSlots}
 use Rattle.state.specs.Slots.{uses, slotOf, slot-found, slot-is}
-use Rattle.slots.specs.Handles.{freeSlot, slotFor, for-held, for-free}
+use Rattle.slots.specs.Handles.{slotFor, for-held}
 
 -- a store that makes no number larger
 set-less : (l : List ℕ) (k x j : ℕ) → x ≤ getD l k 0 → getD (set l k x) j 0 ≤ getD l j 0

@@ -1,9 +1,9 @@
 -- What a call answers as document 01 has it, and when a call's rows and its next state fix it. Assumes nothing.
-use mathlib.Core.Path.{_≡_, refl, sym, ap, _∙_}
-use mathlib.Core.Logic.{_⊎_, inl, inr}
+use mathlib.Core.Path.{_≡_, sym, ap, _∙_}
+use mathlib.Core.Logic.{inl, inr}
 use mathlib.Core.List.{List, [], _∷_}
 use Prim.Native.Nat.{ℕ}
-use Rattle.base.specs.Rows.{Row, row, Gives, gives-one}
+use Rattle.base.specs.Rows.{Row, Gives, gives-one}
 use Rattle.superblock.specs.Disk.{Disk}
 use Rattle.inode.specs.Lent.{diskSeen}
 use Rattle.state.specs.declared.Volume.{Volume}

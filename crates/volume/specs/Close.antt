@@ -1,9 +1,9 @@
 -- close: document 01's rows 1 and 4, and the state with a reference less. Assumes nothing.
-use mathlib.Core.Path.{_≡_, refl, sym, ap, _∙_}
-use mathlib.Core.Logic.{_⊎_, inl, inr}
+use mathlib.Core.Path.{_≡_, _∙_}
+use mathlib.Core.Logic.{inl, inr}
 use mathlib.Core.List.{List, [], _∷_}
-use Prim.Native.Nat.{ℕ, _-_, _≤_, _<_}
-use lib.ListN.{getD, set}
+use Prim.Native.Nat.{ℕ, _-_}
+use lib.ListN.{getD, length, set, length-set}
 use Rattle.base.specs.Rows.{Row, row}
 use Rattle.base.specs.Refusals.{number}
 use Rattle.base.specs.declared.Refusal.{Refusal}
@@ -33,7 +33,7 @@ closeRows v image h =
     ∷ row 4 (GoodHandle (v .slots .inums) (v .slots .refs) h → ⊥)
     ∷ []
 
--- the volume with n references on slot k, for the inodes `inums`
+-- the volume with these slots
 abbrev pub withSlots : Volume → List ℕ → List ℕ → Volume
 withSlots v inums refs = record {
   sb = v .sb;
@@ -59,20 +59,33 @@ pub close-one : (v : Volume) (image : List ℕ) (h : Handle) (a b : Left Unit) �
 close-one v image h a b p q = answers-one (refused v) (closeRows v image h) (closed v (h .slot), done record {}) a b p q
 
 -- whole but for its slots
-pub slots-whole : (v : Volume) (image inums refs : List ℕ) → Whole v image → GoodSlots inums refs (v .sb .ninodes) → Whole (withSlots v inums refs) image
-slots-whole v image inums refs w g = record {
+pub slots-whole : (v : Volume) (image inums refs : List ℕ) → Whole v image → length inums ≡ 50 → length refs ≡ 50 → GoodSlots inums refs (v .sb .ninodes)
+    → Whole (withSlots v inums refs) image
+slots-whole v image inums refs w li lr g = record {
   live = w .live;
   card = w .card;
   counts = w .counts;
   buffered = w .buffered;
   order = w .order;
   slots = g;
+  lengths = record {
+    blocks = w .lengths .blocks;
+    counts = w .lengths .counts;
+    order = w .lengths .order;
+    homes = w .lengths .homes;
+    inums = li;
+    refs = lr;
+  };
 }
 
 pub close-whole : (v : Volume) (image : List ℕ) (h : Handle) (l : Left Unit) → Whole v image → CloseGives v image h l → Whole (l .0) image
 close-whole v image h l w (inl g) = absurd (g .0 w)
 close-whole v image h l w (inr (_, inl g)) = rw (g .1) w
-close-whole v image h l w (inr (_, inr (_, g))) = rw g (slots-whole v image (v .slots .inums) (set (v .slots .refs) (h .slot) (getD (v .slots .refs) (h .slot) 0 - 1)) w (good-less (v .slots .inums) (v .slots .refs) (v .sb .ninodes) (h .slot) (w .slots)))
+close-whole v image h l w (inr (_, inr (_, g))) =
+    rw g
+    (slots-whole v image (v .slots .inums) (set (v .slots .refs) (h .slot) (getD (v .slots .refs) (h .slot) 0 - 1)) w (w .lengths .inums)
+    (length-set (v .slots .refs) (h .slot) (getD (v .slots .refs) (h .slot) 0 - 1) ∙ w .lengths .refs)
+    (good-less (v .slots .inums) (v .slots .refs) (v .sb .ninodes) (h .slot) (w .slots)))
 
 -- ---- where the code answers
 

@@ -1,31 +1,28 @@
 -- What a call has shown where it answers: of a handle that is good in a whole state, of the inode that it names, and of the copy of its content.
 -- Assumes nothing.
-use mathlib.Core.Path.{_≡_, refl, sym, ap, _∙_}
-use mathlib.Core.Bool.{Bool, true, false, cond}
+use mathlib.Core.Path.{_≡_, sym, ap, _∙_}
 use mathlib.Core.List.{List}
-use Prim.Native.Nat.{ℕ, _+_, _-_, _*_, _/_, _%_, _≤_, _<_, min}
+use Prim.Native.Nat.{ℕ, _+_, _-_, _≤_, _<_, min}
 use native.Mathlib.Omega.{arith}
 use lib.ListN.{getD, length, set}
 use lib.IntN.{ℤ}
 use Rattle.base.specs.Bytes.{Bytes, bytes, put, put-same}
-use Rattle.superblock.specs.declared.Super.{Super}
 use Rattle.superblock.specs.declared.Inode.{Inode}
 use Rattle.superblock.specs.Geometry.{GoodNumbers, inodeAddr}
 use Rattle.superblock.specs.Node.{Node, node, inodeAt}
-use Rattle.superblock.specs.Disk.{Disk, disk, inoOf}
 use Rattle.bio.specs.Seen.{seen}
 use Rattle.rules.specs.Fit.{Fit, byteOf}
 use Rattle.inode.specs.Lent.{Lent}
 use Rattle.inode.specs.Fetch.{fetched}
 use Rattle.inode.specs.Content.{content}
 use Rattle.walk.specs.Step.{From}
-use Rattle.content.specs.Parts.{contentAt, Readable, fit-readable}
+use Rattle.content.specs.Parts.{contentAt}
 use Rattle.state.specs.Whole.{Whole}
 use Rattle.state.specs.Card.{card-numbers, card-length}
 use Rattle.state.specs.declared.Volume.{Volume}
 use Rattle.state.specs.declared.Handle.{Handle}
 use Rattle.slots.specs.Handles.{GoodHandle}
-use Rattle.volume.specs.Answers.{Said, done, Left, diskOf}
+use Rattle.volume.specs.Answers.{done, Left, diskOf}
 use Rattle.volume.specs.Signed.{signed}
 use Rattle.volume.specs.Close.{closed, withSlots}
 use Rattle.volume.specs.Stat.{Facts, factsOf, StatGives, statLeft, notStated}
@@ -33,7 +30,7 @@ use Rattle.volume.specs.Read.{ReadLeft, readCount, readInto, ReadGives, 
 use Rattle.volume.specs.declared.AfterStat.{AfterStat}
 use Rattle.volume.specs.declared.AfterRead.{AfterRead}
 use Rattle.base.specs.declared.Refusal.the-variants.{Unfit, WrongKind, PastEnd}
-use mathlib.Core.Logic.{_⊎_, inl, inr}
+use mathlib.Core.Logic.{inl, inr}
 
 -- the memory that a volume sees
 abbrev pub memory : Volume → List ℕ → List ℕ → Bytes

@@ -1,10 +1,10 @@
 -- open: document 01's rows 1, 2, 4, 5, 6, 7 and 11, and the state with a reference more on the slot that holds the inode, else on the lowest
 -- free one. Assumes nothing.
-use mathlib.Core.Path.{_≡_, refl, sym, ap, _∙_}
-use mathlib.Core.Bool.{Bool, true, false, cond}
-use mathlib.Core.Logic.{_≢_, _⊎_, inl, inr}
+use mathlib.Core.Path.{_≡_}
+use mathlib.Core.Bool.{cond}
+use mathlib.Core.Logic.{_≢_}
 use mathlib.Core.List.{List, [], _∷_}
-use Prim.Native.Nat.{ℕ, _+_, _≤_, _<_}
+use Prim.Native.Nat.{ℕ, _+_, _<_}
 use lib.ListN.{getD, length, set}
 use lib.Dec.{eqb}
 use Rattle.base.specs.Bytes.{bytes}

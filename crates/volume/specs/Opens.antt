@@ -1,31 +1,30 @@
 -- Where open answers, and that the state that it leaves is whole. Assumes nothing.
 use mathlib.Core.Path.{_≡_, refl, sym, ap, _∙_}
-use mathlib.Core.Bool.{Bool, true, false, cond, not}
-use mathlib.Core.Logic.{_≢_, _⊎_, inl, inr}
-use mathlib.Core.List.{List, [], _∷_}
+use mathlib.Core.Bool.{Bool, true, not}
+use mathlib.Core.Logic.{_⊎_, inl, inr}
+use mathlib.Core.List.{List}
 use Prim.Native.Nat.{ℕ, _+_, _≤_, _<_}
 use native.Mathlib.Omega.{arith}
 use native.Mathlib.Decide.{ℕ-discrete, decLt}
-use lib.ListN.{getD, length, set}
-use lib.Dec.{eqb}
+use lib.ListN.{getD, length, set, length-set}
+use lib.Seq.{getD-set-same}
 use borrow.Author.Tests.{eq-eqb, ne-eqb}
 use Rattle.base.specs.Bytes.{bytes}
 use Rattle.base.specs.Decide.{Decides, so, alike}
 use Rattle.base.specs.declared.Refusal.{Refusal}
-use Rattle.base.specs.declared.Refusal.the-variants.{Unfit, NotDirectory, NoName, NoSlot}
-use Rattle.superblock.specs.declared.Super.{Super}
+use Rattle.base.specs.declared.Refusal.the-variants.{NoSlot}
 use Rattle.path.specs.Parts.{pathLen}
 use Rattle.walk.specs.Step.{From}
 use Rattle.walk.specs.Walks.{walkOf}
 use Rattle.walk.specs.Reached.{OfWalk, unfit, not-directory, no-name, walk-reached, walk-only}
 use Rattle.walk.specs.declared.Walk.{Walk}
 use Rattle.walk.specs.declared.Walk.the-variants.{Reached, Refused as Stopped}
-use Rattle.state.specs.Whole.{Whole, GoodSlots}
+use Rattle.state.specs.Whole.{Whole}
 use Rattle.state.specs.declared.Volume.{Volume}
 use Rattle.state.specs.declared.Handle.{Handle}
-use Rattle.slots.specs.Handles.{GoodHandle, Room, slotFor}
+use Rattle.slots.specs.Handles.{GoodHandle, Room}
 use Rattle.slots.specs.Keeps.{good-more}
-use Rattle.volume.specs.Answers.{Said, done, instead, Left, diskOf}
+use Rattle.volume.specs.Answers.{done, instead, Left, diskOf}
 use Rattle.volume.specs.Close.{withSlots, slots-whole}
 use Rattle.volume.specs.Inside.{numbers, handle-from}
 use Rattle.volume.specs.Open.{Starts, rooted, handled, origin, walked, reached, slotIn, opened, openTo, OpenGives, openLeft, notOpened}
@@ -138,38 +137,85 @@ module _ (v : Volume) (image cache path : List ℕ) (h : Handle) (w : Whole v im
             ∙ ap {B = Left Handle} (λ (x : ℕ). (opened v k i, done (record { slot = x; inum = i }))) y
             ∙ ap {B = Left Handle} (λ (x : ℕ). (opened v x i, done (record { slot = x; inum = i }))) z
 
--- ---- the next state is whole. A volume's two arrays of slots have 50 places, as their type says
+-- ---- the next state is whole, and the handle that was given is good in it
 
-pub open-whole : (v : Volume) (image cache path : List ℕ) (h : Handle) (l : Left Handle) → length (v .slots .inums) ≡ 50 → length (v .slots .refs) ≡ 50
-    → Whole v image → OpenGives v image cache path h l → Whole (l .0) image
-open-whole v image cache path h l li lr w (inl g) = absurd (g .0 w)
-open-whole v image cache path h l li lr w (inr (_, inl g)) = rw (g .1) w
-open-whole v image cache path h l li lr w (inr (_, inr (_, inl g))) = rw (g .1) w
-open-whole v image cache path h l li lr w (inr (_, inr (_, inr (_, inl g)))) = rw (g .1) w
-open-whole v image cache path h l li lr w (inr (_, inr (_, inr (_, inr (_, inl g))))) = rw (g .1) w
-open-whole v image cache path h l li lr w (inr (_, inr (_, inr (_, inr (_, inr (_, inl g)))))) = rw (g .1) w
-open-whole v image cache path h l li lr w (inr (_, inr (_, inr (_, inr (_, inr (_, inr (_, inl g))))))) = rw (g .1) w
-open-whole v image cache path h l li lr w (inr (_, inr (_, inr (_, inr (_, inr (_, inr (_, inr (_, inl g)))))))) = rw (g .1) w
-open-whole v image cache path h l li lr w (inr (_, inr (_, inr (_, inr (s, inr (u, inr (d, inr (n, inr (m, g))))))))) =
-    rw g (slots-whole v image _ _ w (good-more (v .slots .inums) (v .slots .refs) (v .sb .ninodes) (reached (walked v image cache path h)) li lr (w .slots) (omega (arith, arrived .some)) (arrived .inside) room-slot room-count))
-  where
-    arrived : From (v .sb) (reached (walked v image cache path h))
-    arrived = go (walked v image cache path h) refl
-      where
-        never : (x : Refusal) → OfWalk x → walked v image cache path h ≡ Stopped x → ⊥
-        never x unfit e = u e
-        never x not-directory e = d e
-        never x no-name e = n e
+module _ (v : Volume) (image cache path : List ℕ) (h : Handle) (w : Whole v image) where
+  -- the inode that the path names, and its slot
+  abbrev named : ℕ
+  named = reached (walked v image cache path h)
 
-        go : (t : Walk) → walked v image cache path h ≡ t → From (v .sb) (reached t)
-        go (Reached i) e = walk-reached (v .sb) (diskOf v cache image) (origin path h) path i (not-denied v image w path h s) e .from
-        go (Stopped x) e = absurd (never x (walk-only (v .sb) (diskOf v cache image) (origin path h) path x e) e)
+  abbrev slot : ℕ
+  slot = slotIn v (reached (walked v image cache path h))
 
-    room-slot : slotIn v (reached (walked v image cache path h)) < 50
-    room-slot = elim (decLt (slotIn v (reached (walked v image cache path h))) 50) [ yes y ↦ y | no y ↦ absurd (m (λ r. y (r .slot))) ]
+  -- an open that is done: the inode is one of the card's, the slot has room, and this is what is left
+  pub record Did (l : Left Handle) : Type 0 where
+    pub from : From (v .sb) named
+    pub below : slot < 50
+    pub room : getD (v .slots .refs) slot 0 < 1000
+    pub is : l ≡ openTo v named
 
-    room-count : getD (v .slots .refs) (slotIn v (reached (walked v image cache path h))) 0 < 1000
-    room-count = elim (ℕ-discrete (getD (v .slots .refs) (slotIn v (reached (walked v image cache path h))) 0) 1000) [
-      | yes y ↦ absurd (m (λ r. r .below y))
-      | no y ↦ omega (arith, count-most v image w (slotIn v (reached (walked v image cache path h))) room-slot)
-    ]
+  -- an open gives a number and leaves all as it was, or is done
+  pub open-cases : (l : Left Handle) → OpenGives v image cache path h l → ((n : ℕ) × (l ≡ (v, instead n))) ⊎ Did l
+  open-cases l (inl g) = inl (_, g .1)
+  open-cases l (inr (_, inl g)) = inl (_, g .1)
+  open-cases l (inr (_, inr (_, inl g))) = inl (_, g .1)
+  open-cases l (inr (_, inr (_, inr (_, inl g)))) = inl (_, g .1)
+  open-cases l (inr (_, inr (_, inr (_, inr (_, inl g))))) = inl (_, g .1)
+  open-cases l (inr (_, inr (_, inr (_, inr (_, inr (_, inl g)))))) = inl (_, g .1)
+  open-cases l (inr (_, inr (_, inr (_, inr (_, inr (_, inr (_, inl g))))))) = inl (_, g .1)
+  open-cases l (inr (_, inr (_, inr (_, inr (_, inr (_, inr (_, inr (_, inl g)))))))) = inl (_, g .1)
+  open-cases l (inr (_, inr (_, inr (_, inr (s, inr (u, inr (d, inr (n, inr (m, g))))))))) = inr (record { from = arrived; below = below; room = room; is = g })
+    where
+      arrived : From (v .sb) named
+      arrived = go (walked v image cache path h) refl
+        where
+          never : (x : Refusal) → OfWalk x → walked v image cache path h ≡ Stopped x → ⊥
+          never x unfit e = u e
+          never x not-directory e = d e
+          never x no-name e = n e
+
+          go : (t : Walk) → walked v image cache path h ≡ t → From (v .sb) (reached t)
+          go (Reached i) e = walk-reached (v .sb) (diskOf v cache image) (origin path h) path i (not-denied v image w path h s) e .from
+          go (Stopped x) e = absurd (never x (walk-only (v .sb) (diskOf v cache image) (origin path h) path x e) e)
+
+      below : slot < 50
+      below = elim (decLt slot 50) [ yes y ↦ y | no y ↦ absurd (m (λ r. y (r .slot))) ]
+
+      room : getD (v .slots .refs) slot 0 < 1000
+      room = elim (ℕ-discrete (getD (v .slots .refs) slot 0) 1000) [
+        | yes y ↦ absurd (m (λ r. r .below y))
+        | no y ↦ omega (arith, count-most v image w slot below)
+      ]
+
+  did-whole : (l : Left Handle) → Did l → Whole (l .0) image
+  did-whole l d =
+      rw (d .is)
+      (slots-whole v image (set (v .slots .inums) slot named) (set (v .slots .refs) slot (getD (v .slots .refs) slot 0 + 1)) w
+      (length-set (v .slots .inums) slot named ∙ w .lengths .inums) (length-set (v .slots .refs) slot (getD (v .slots .refs) slot 0 + 1) ∙ w .lengths .refs)
+      (good-more (v .slots .inums) (v .slots .refs) (v .sb .ninodes) named (w .lengths .inums) (w .lengths .refs) (w .slots) (d .from .some) (d .from .inside) (d .below) (d .room)))
+
+  pub open-whole : (l : Left Handle) → OpenGives v image cache path h l → Whole (l .0) image
+  open-whole l g = go (open-cases l g)
+    where
+      go : ((n : ℕ) × (l ≡ (v, instead n))) ⊎ Did l → Whole (l .0) image
+      go (inl r) = rw (r .1) w
+      go (inr d) = did-whole l d
+
+  -- the handle of an open that is done
+  taken : slot < 50
+      → GoodHandle (set (v .slots .inums) slot named) (set (v .slots .refs) slot (getD (v .slots .refs) slot 0 + 1)) (record { slot = slot; inum = named })
+  taken b = record {
+    slot = b;
+    used = omega (arith, getD-set-same (v .slots .refs) slot (getD (v .slots .refs) slot 0 + 1) 0 (omega (arith, w .lengths .refs)));
+    inode = getD-set-same (v .slots .inums) slot named 0 (omega (arith, w .lengths .inums));
+  }
+
+  pub open-good : (l : Left Handle) (g : Handle) → OpenGives v image cache path h l → l .1 ≡ done g → GoodHandle (l .0 .slots .inums) (l .0 .slots .refs) g
+  open-good l g o e = go (open-cases l o)
+    where
+      go : ((n : ℕ) × (l ≡ (v, instead n))) ⊎ Did l → GoodHandle (l .0 .slots .inums) (l .0 .slots .refs) g
+      go (inl r) = let q : l .1 ≡ instead (r .0) = ap (λ (x : Left Handle). x .1) (r .1) in let z : _≡_ {A = ℕ} 0 1 = cc in absurd (omega arith)
+      go (inr d) =
+          let q : l .1 ≡ done (record { slot = slot; inum = named }) = ap (λ (x : Left Handle). x .1) (d .is) in
+          let z : _≡_ {A = Handle} g (record { slot = slot; inum = named }) = cc in
+          rw (d .is, z) (taken (d .below))

@@ -1,15 +1,13 @@
 -- read: document 01's rows 1, 2, 4, 5, 8 and 9; the bytes of the content as it is seen, and the buffer past them untouched. Assumes nothing.
-use mathlib.Core.Path.{_≡_, refl, sym, ap, _∙_}
-use mathlib.Core.Logic.{_≢_, _⊎_, inl, inr}
+use mathlib.Core.Path.{_≡_, refl, ap}
+use mathlib.Core.Logic.{_≢_}
 use mathlib.Core.List.{List, [], _∷_}
-use Prim.Native.Nat.{ℕ, _+_, _-_, _≤_, _<_, min}
-use lib.ListN.{getD, length}
-use Rattle.base.specs.Bytes.{Bytes, bytes, put, put-same}
+use Prim.Native.Nat.{ℕ, _+_, _-_, _<_, min}
+use lib.ListN.{length}
+use Rattle.base.specs.Bytes.{Bytes, bytes, put}
 use Rattle.base.specs.Rows.{Row, row}
 use Rattle.base.specs.Refusals.{number}
 use Rattle.base.specs.declared.Refusal.{Refusal}
-use Rattle.superblock.specs.Node.{Node, node}
-use Rattle.superblock.specs.declared.Inode.{Inode}
 use Rattle.superblock.specs.Disk.{Disk}
 use Rattle.rules.specs.Fit.{Fit, byteOf}
 use Rattle.state.specs.Whole.{Whole}

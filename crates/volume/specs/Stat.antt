@@ -1,15 +1,14 @@
 -- stat: document 01's rows 1, 2, 4 and 5; kind, link count and size of the inode as it is seen. Assumes nothing.
-use mathlib.Core.Path.{_≡_, refl, sym, ap, _∙_}
-use mathlib.Core.Logic.{_≢_, _⊎_, inl, inr}
+use mathlib.Core.Path.{_≡_, refl}
+use mathlib.Core.Logic.{_≢_}
 use mathlib.Core.List.{List, [], _∷_}
-use Prim.Native.Nat.{ℕ, _-_, _≤_, _<_}
-use lib.ListN.{getD, length}
+use Prim.Native.Nat.{ℕ}
+use lib.ListN.{length}
 use lib.IntN.{ℤ}
 use Rattle.base.specs.Rows.{Row, row}
 use Rattle.base.specs.Refusals.{number}
 use Rattle.base.specs.declared.Refusal.{Refusal}
-use Rattle.superblock.specs.Node.{Node, node}
-use Rattle.superblock.specs.declared.Inode.{Inode}
+use Rattle.superblock.specs.Node.{Node}
 use Rattle.rules.specs.Fit.{Fit}
 use Rattle.state.specs.Whole.{Whole}
 use Rattle.state.specs.declared.Volume.{Volume}

@@ -1,18 +1,17 @@
-use borrow.Author.Count.{below-more}
-use mathlib.Core.Path.{_≡_, sym, ap, _∙_}
+-- `slots::free_slot` meets its contract: every slot that was passed is in use. Assumes nothing.
+use mathlib.Core.Path.{_≡_, sym, _∙_}
 use mathlib.Core.Bool.{false}
 use lib.ListN.{getD}
 use lib.Dec.{eqb}
-use borrow.Author.Tests.{eq-eqb, ne-eqb}
-use Prim.Native.Nat.{ℕ, _+_, _-_, _≤_, _<_}
+use Prim.Native.Nat.{ℕ, _-_, _≤_, _<_}
 use native.Mathlib.Omega.{arith}
+use borrow.Author.Count.{below-more}
+use borrow.Author.Tests.{eq-eqb, ne-eqb}
+use borrow.Author.Needs.{needs}
 use Rattle.base.specs.First.{first-at, first-none}
 use Rattle.slots.specs.Handles.{freeSlot}
-use borrow.Author.Needs.{needs}
 use Rattle.slots.proofs.free_slot.Statement.{statement}
 use Rattle.slots.proofs.free_slot.Tie as tie
-use Rattle.slots.proofs.free_slot.Reads as reads
-use Rattle.slots.proofs.free_slot.Lts as lts
 
 abbrev Inv-loop : tie.InvT-loop
 Inv-loop refs k₀ k = (k ≤ 50) × ((j : ℕ) → j < k → eqb (getD refs j 0) 0 ≡ false)
@@ -20,36 +19,28 @@ Inv-loop refs k₀ k = (k ≤ 50) × ((j : ℕ) → j < k → eqb (getD refs j 0
 abbrev μ-loop : tie.MeasureT-loop
 μ-loop refs k₀ k = 50 - k
 
--- src/lib.rt:16:5
 loop-holds : tie.Need-loop-holds Inv-loop μ-loop
 loop-holds c = (search needs, λ k h. absurd (omega arith))
 
--- src/lib.rt:17:12
 mul-if1 : tie.Need-mul-if1 Inv-loop μ-loop
 mul-if1 c = search needs
 
--- src/lib.rt:17:12
 element-copy-out-if1 : tie.Need-element-copy-out-if1 Inv-loop μ-loop
 element-copy-out-if1 c = search needs
 
--- src/lib.rt:18:13
 returns : tie.Need-returns Inv-loop μ-loop
 unfolding freeSlot
 returns c = sym (first-at _ _ _ (c .before .before .loop-test .taken) (c .before .before .before .loop .inv .1) (eq-eqb _ _ (c .if1 .taken)))
 
--- src/lib.rt:20:9
 add-k : tie.Need-add-k Inv-loop μ-loop
 add-k c = search needs
 
--- src/lib.rt:16:5
 loop-less : tie.Need-loop-less Inv-loop μ-loop
 loop-less c = search needs
 
--- src/lib.rt:16:5
 loop-again : tie.Need-loop-again Inv-loop μ-loop
 loop-again c = (search needs, below-more _ _ (c .before .before .before .loop .inv .1) (ne-eqb _ _ (c .if1 .left)))
 
--- src/lib.rt:12:1
 returns-2 : tie.Need-returns-2 Inv-loop μ-loop
 unfolding freeSlot
 returns-2 c =

@@ -1,20 +1,15 @@
-use Rattle.volume.specs.Opens.{origin-root, origin-handle}
+-- `volume::start` meets its contract. Assumes nothing.
 use borrow.Author.Needs.{needs}
+use Rattle.volume.specs.Opens.{origin-root, origin-handle}
 use Rattle.volume.proofs.start.Statement.{statement}
 use Rattle.volume.proofs.start.Tie as tie
-use Rattle.volume.proofs.start.Reads as reads
-use Rattle.volume.proofs.start.Lts as lts
-use Rattle.base.proofs.get.Reads as get-reads
 
--- src/lib.rt:112:9
 get-requires : tie.Need-get-requires
 get-requires c κs = search needs
 
--- src/lib.rt:114:9
 returns : tie.Need-returns
 returns c = origin-root _ _ _ (c .before .get .ensures) (c .if1 .taken)
 
--- src/lib.rt:109:1
 returns-2 : tie.Need-returns-2
 returns-2 c = origin-handle _ _ _ (c .before .get .ensures) (c .if1 .left)
 
