@@ -6,7 +6,6 @@
 ghost use Prim.Native.Nat.{_≤_, _<_};
 ghost use mathlib.Core.Path.{_≡_};
 ghost use lib.ListN.{length};
-use bio::Table;
 use libc::STDIN_FILENO;
 use libc::STDOUT_FILENO;
 use state::Handle;
@@ -227,24 +226,9 @@ fn poke(image: &mut [u8], line: &[u8]) {
 
 // ---- the calls
 
-fn order() -> [u32; 30] {
-    let mut order = [0u32; 30];
-    let mut i: usize = 0;
-    while i < 30 {
-        order[i] = i as u32;
-        i += 1;
-    }
-    order
-}
-
 // The state of a card whose log is empty, with no handle given.
 fn fresh(image: &[u8], live: u32) -> Session {
-    let order = order();
-    let table = Table {
-        blocks: [4294967295; 30],
-        counts: [0; 30],
-        order: order,
-    };
+    let table = bio::fresh();
     let slots = Slots {
         inums: [0; 50],
         refs: [0; 50],
