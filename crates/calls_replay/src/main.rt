@@ -1,15 +1,13 @@
 // Replays calls on small cards: reads a script on standard input, one call a line, and writes one answer a line.
 //
 // The language is that of the comparison programs (oracle/README.md), as far as these calls go: mkfs, poke, mount, open, cwd, close, read,
-// stat and slots. The cards have 64 blocks at most and an empty log, so that `mount` has nothing to recover and makes a state of the card's
-// numbers. A refusal is `no N` with document 01's number.
+// stat and slots. The cards have 64 blocks at most. A refusal is `no N` with document 01's number.
 ghost use Prim.Native.Nat.{_≤_, _<_};
 ghost use mathlib.Core.Path.{_≡_};
 ghost use lib.ListN.{length};
 use libc::STDIN_FILENO;
 use libc::STDOUT_FILENO;
 use state::Handle;
-use state::Slots;
 use state::Volume;
 use volume::Closing;
 use volume::Opening;
@@ -226,29 +224,22 @@ fn poke(image: &mut [u8], line: &[u8]) {
 
 // ---- the calls
 
-// The state of a card whose log is empty, with no handle given.
-fn fresh(image: &[u8], live: u32) -> Session {
-    let table = bio::fresh();
-    let slots = Slots {
-        inums: [0; 50],
-        refs: [0; 50],
-    };
-    let volume = Volume {
-        sb: superblock::super_of(image),
-        table: table,
-        homes: [0; 30],
-        recorded: 0,
-        ops: 0,
-        slots: slots,
-        live: live,
-    };
+// A volume as mount left it, with no handle given.
+fn started(v: Volume) -> Session {
     Session {
-        volume: volume,
+        volume: v,
         slots: [50; 64],
         inums: [0; 64],
         given: 0,
         from: 64,
     }
+}
+
+// Before the first mount: that of a card with no superblock gives a volume that answers 1.
+fn unmounted(cache: &[u8]) -> Session {
+    let mut none = [0u8; 1];
+    let after = transactions::mount(&mut none, cache, 0);
+    started(after.volume)
 }
 
 // mkfs SIZE NINODES NLOG
@@ -275,13 +266,24 @@ fn mkfs(image: &mut [u8], line: &[u8]) {
     }
 }
 
-fn mount(image: &[u8]) -> Session {
-    if superblock::good(image) {
-        say(b"ok writes 0\n");
-        return fresh(image, 1);
+// mount: with all the writes that a recovery can take
+fn mount(image: &mut [u8], cache: &[u8]) -> Session {
+    let after = transactions::mount(image, cache, 30);
+    let answer = after.answer;
+    match answer {
+        transactions::Answer::Done(w) => {
+            say(b"ok writes ");
+            say_number(w);
+            say(b"\n");
+        }
+        transactions::Answer::Cut(w) => {
+            say(b"cut ");
+            say_number(w);
+            say(b"\n");
+        }
+        transactions::Answer::Refused(r) => say_refusal(r),
     }
-    say(b"no 17\n");
-    fresh(image, 0)
+    started(after.volume)
 }
 
 // Handle k of those given; one that was not is no good.
@@ -498,7 +500,7 @@ fn step(s: Session, image: &mut [u8], cache: &[u8], line: &[u8]) -> Session {
     }
     if a == b'm' {
         if b == b'o' {
-            return mount(image);
+            return mount(image, cache);
         }
         mkfs(image, line);
     }
@@ -514,7 +516,7 @@ fn line_end(text: &[u8], a: usize) -> usize
 }
 
 fn replay(text: &[u8], image: &mut [u8], cache: &[u8]) {
-    let mut s = fresh(image, 0);
+    let mut s = unmounted(cache);
     let mut at: usize = 0;
     while at < text.len() {
         let e = line_end(text, at);

@@ -13,8 +13,8 @@ Inv-loop text image₀ cache s₀ at₀ image s at = (at ≤ length text) × (le
 abbrev μ-loop : tie.MeasureT-loop
 μ-loop text image₀ cache s₀ at₀ image s at = length text - at
 
-fresh-requires : tie.Need-fresh-requires Inv-loop μ-loop
-fresh-requires c κs = search needs
+unmounted-requires : tie.Need-unmounted-requires Inv-loop μ-loop
+unmounted-requires c κs = search needs
 
 loop-holds : tie.Need-loop-holds Inv-loop μ-loop
 loop-holds c = search needs
@@ -41,7 +41,7 @@ returns : tie.Need-returns Inv-loop μ-loop
 returns c = search needs
 
 add-at : tie.Need-add-at Inv-loop μ-loop
-add-at c = omega (arith, c .if1 .left, c .before .before .before .before .before .before .before .before .before .before .before .before .before .before .good .0)
+add-at c = omega (arith, c .if1 .left, c .before .before .before .before .before .before .before .before .before .before .before .before .before .good .0)
 
 loop-less : tie.Need-loop-less Inv-loop μ-loop
 loop-less c = search needs
@@ -61,7 +61,7 @@ replay-spec =
     (tie.spec
     Inv-loop
     μ-loop
-    fresh-requires
+    unmounted-requires
     loop-holds
     line-end-requires
     sub-step
