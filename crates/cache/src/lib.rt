@@ -1,6 +1,7 @@
 // The buffer cache standing alone (bio.rs): get, release, pin and unpin on a table by value, over lent memory and a lent image.
 //
 // bget is `get` (find_cached, else recycle and the read of bread), Drop is `release`, and panics are refusals.
+#![tactic(auto)]
 ghost use Rattle.std.specs.Prelude.{◌≡◌, ℕ, ◌+◌, ◌*◌, ◌<◌, ◌≤◌, length, get_or, set};
 ghost use Rattle.base.specs.Bytes.{bytes};
 ghost use Rattle.base.specs.Decide.{Decides};

@@ -3,6 +3,7 @@
 // A line is `OP ARG ANSWER o0 .. o29`: OP 1 get, 2 release, 3 pin, 4 unpin; ARG the block of a get, the buffer of the others; ANSWER the buffer,
 // 255 where the Rust panics; then the order after the step. Byte i of the image is i / 1024, so that a buffer's bytes tell its block: after a get
 // they are compared too.
+#![tactic(auto)]
 ghost use Rattle.std.specs.Prelude.{◌≡◌, ℕ, ◌+◌, ◌*◌, ◌<◌, ◌≤◌, length};
 
 use bio::Table;

@@ -2,6 +2,7 @@
 //
 // The language is that of the comparison programs (oracle/README.md), as far as these calls go: mkfs, poke, mount, open, cwd, close, read,
 // stat and slots. The cards have 64 blocks at most. A refusal is `no N` with document 01's number.
+#![tactic(auto)]
 ghost use Rattle.std.specs.Prelude.{◌≤◌, ◌<◌, ◌≡◌, length};
 
 use libc::{STDIN_FILENO, STDOUT_FILENO};

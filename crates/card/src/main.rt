@@ -1,5 +1,6 @@
 // The program of document 01's case 15: reads an image of at most 64 blocks from standard input and writes its numbers, its used inodes and the
 // checker's verdict. What it writes is tested (tests/card); the verdict is the checker's, which is proved.
+#![tactic(auto)]
 ghost use Rattle.std.specs.Prelude.{◌≡◌, ℕ, ◌≤◌, ◌<◌, length};
 
 use rules::{Rule, Verdict};

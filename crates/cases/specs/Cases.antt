@@ -14,8 +14,8 @@ use Rattle.base.specs.Run.{run}
 use Rattle.base.specs.First.{first, all}
 use Rattle.base.specs.Bit.{bit_at}
 use Rattle.bio.specs.Among.{among}
-use Rattle.log.specs.Words.{put_words}
-use Rattle.log.specs.Journal.{Tx, held, words, home_write, emptied, install_write, commit_write, commit_due, recover_due, commit, logged, recover, recovered, recoveries, after_crash}
+use Rattle.card_log.specs.Words.{put_words}
+use Rattle.card_log.specs.Journal.{Tx, held, words, home_write, emptied, install_write, commit_write, commit_due, recover_due, commit, logged, recover, recovered, recoveries, after_crash}
 use Rattle.recording.specs.Record.{Room, news_of}
 use Rattle.transactions.specs.Calls.{IsBusy}
 use Rattle.superblock.specs.Entry.{padded, entry_bytes}

@@ -1,6 +1,7 @@
 // Directories (inode.rs, dir_lookup): the first live entry of a directory whose 14 bytes are a component's name.
 //
 // Each block of the directory is looked at once, as a slice. The name is a part of the path, compared where it stands.
+#![tactic(auto)]
 ghost use Rattle.std.specs.Prelude.{◌≡◌, ℕ, ◌+◌, ◌*◌, ◌<◌, ◌≤◌, length, get_or};
 ghost use Rattle.base.specs.First.{first};
 ghost use Rattle.base.specs.Bytes.{bytes};

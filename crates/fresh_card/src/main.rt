@@ -1,5 +1,6 @@
 // Formats case 1's card, 64 blocks with 16 inodes and 30 log blocks, over memory that is not zero, and prints the superblock's numbers and the
 // first five bytes of the bitmap as they then stand in the image.
+#![tactic(auto)]
 ghost use Rattle.std.specs.Prelude.{◌≡◌, length};
 
 use format::Answer;

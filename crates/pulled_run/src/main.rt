@@ -3,6 +3,7 @@
 //
 // A line for each k: what `end` answers (0 done, 19 cut) and the writes that it reports, then a letter for each pair of cuts, in groups by the
 // first recovery's: o where every home is as before, n where every home is new, x for anything else.
+#![tactic(auto)]
 ghost use Rattle.std.specs.Prelude.{◌≡◌, length, ◌<◌};
 
 use bio::Table;

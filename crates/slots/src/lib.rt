@@ -1,6 +1,7 @@
 // Handle slots (inode.rs, the inode cache): which slot an inode is open in, which one it would take, and whether a handle is good.
 //
 // The two arrays of the slots are lent; nothing here takes a Volume.
+#![tactic(auto)]
 ghost use Rattle.std.specs.Prelude.{◌≡◌, ℕ, ◌<◌, get_or, set};
 ghost use Rattle.base.specs.Decide.{Decides};
 ghost use Rattle.slots.specs.Handles.{GoodHandle, Room, free_slot, slot_for};

@@ -11,7 +11,7 @@ use Rattle.superblock.specs.declared.Super.{Super}
 use Rattle.superblock.specs.Geometry.{Good, super_of}
 use Rattle.bio.specs.Fresh.{fresh_table}
 use Rattle.bio.specs.Seen.{buffer_of}
-use Rattle.log.specs.Journal.{Tx, held, GoodLog, logged, recover, recover_due, commit, commit_due}
+use Rattle.card_log.specs.Journal.{Tx, held, GoodLog, logged, recover, recover_due, commit, commit_due}
 use Rattle.state.specs.declared.Volume.{Volume}
 use Rattle.state.specs.Whole.{Whole}
 use Rattle.transactions.specs.declared.Answer.{Answer}

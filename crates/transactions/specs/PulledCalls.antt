@@ -11,7 +11,7 @@
 use Rattle.std.specs.Prelude.{◌≡◌, ◌⊎◌, List, ℕ, ◌+◌, ◌≤◌, length}
 use Rattle.base.specs.Bytes.{bytes}
 use Rattle.bio.specs.Seen.{seen}
-use Rattle.log.specs.Journal.{Outside, logged}
+use Rattle.card_log.specs.Journal.{Outside, logged}
 use Rattle.state.specs.declared.Volume.{Volume}
 use Rattle.state.specs.Whole.{Whole}
 use Rattle.transactions.specs.Calls.{Left, paper, EndGives, MountGives}

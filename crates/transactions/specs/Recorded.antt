@@ -6,7 +6,7 @@ use Rattle.base.specs.Bytes.{Bytes, bytes}
 use Rattle.superblock.specs.declared.Super.{Super}
 use Rattle.superblock.specs.Geometry.{GoodNumbers}
 use Rattle.bio.specs.Seen.{buffer_of, held_below}
-use Rattle.log.specs.Journal.{held, GoodLog, Ready}
+use Rattle.card_log.specs.Journal.{held, GoodLog, Ready}
 use Rattle.state.specs.declared.Volume.{Volume}
 use Rattle.state.specs.Whole.{Whole}
 use Rattle.transactions.specs.Calls.{recorded_tx}

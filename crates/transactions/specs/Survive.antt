@@ -11,11 +11,11 @@ use Rattle.superblock.specs.declared.Super.{Super}
 use Rattle.superblock.specs.Geometry.{Good, Laid, super_of}
 use Rattle.bio.specs.Among.{among, among_where, among_no}
 use Rattle.bio.specs.Seen.{buffer_of, seen, seen_in, seen_out, buffer_none, by_block}
-use Rattle.log.specs.Journal.{held, GoodLog, Settled, logged, recover, recover_due, commit, replaced}
-use Rattle.log.specs.Installing.{replaced_in, replaced_off}
-use Rattle.log.specs.Headers.{recover_due_most}
-use Rattle.log.specs.Crash.{Leads, recover_leads, recovered_done, commit-keeps, commit_turns, recover_enough}
-use Rattle.log.specs.Kept.{commit-below, recover-below}
+use Rattle.card_log.specs.Journal.{held, GoodLog, Settled, logged, recover, recover_due, commit, replaced}
+use Rattle.card_log.specs.Installing.{replaced_in, replaced_off}
+use Rattle.card_log.specs.Headers.{recover_due_most}
+use Rattle.card_log.specs.Crash.{Leads, recover_leads, recovered_done, commit-keeps, commit_turns, recover_enough}
+use Rattle.card_log.specs.Kept.{commit-below, recover-below}
 use Rattle.state.specs.declared.Volume.{Volume}
 use Rattle.state.specs.Whole.{Whole}
 use Rattle.transactions.specs.Calls.{Left, paper, EndGives, MountGives, Recovered, Committed, recorded_tx, mounted}

@@ -5,9 +5,9 @@ use Rattle.base.specs.Bytes.{Bytes, bytes}
 use Rattle.superblock.specs.declared.Super.{Super}
 use Rattle.superblock.specs.Geometry.{Good, super_of}
 use Rattle.bio.specs.Seen.{buffer_of}
-use Rattle.log.specs.Journal.{held, GoodLog, Within, logged, recover, recover_due, commit, commit_due}
-use Rattle.log.specs.Headers.{good_within}
-use Rattle.log.specs.Kept.{commit-same}
+use Rattle.card_log.specs.Journal.{held, GoodLog, Within, logged, recover, recover_due, commit, commit_due}
+use Rattle.card_log.specs.Headers.{good_within}
+use Rattle.card_log.specs.Kept.{commit-same}
 use Rattle.state.specs.declared.Volume.{Volume}
 use Rattle.state.specs.Whole.{Whole}
 use Rattle.transactions.specs.declared.Answer.TheVariants.{Done, Cut}

@@ -2,11 +2,12 @@
 //
 // Mount and end take the number of block writes that still reach the card, and answer how many did. What is on a card that was pulled is a
 // theorem about these calls: specs/PulledCalls.antt.
+#![tactic(auto)]
 ghost use Rattle.std.specs.Prelude.{◌≡◌, ℕ, ◌+◌, ◌*◌, ◌≤◌, ◌<◌, length, get_or};
 ghost use Rattle.base.specs.Bytes.{bytes};
 ghost use Rattle.superblock.specs.Geometry.{Good, super_of};
 ghost use Rattle.bio.specs.Seen.{buffer_of};
-ghost use Rattle.log.specs.Journal.{GoodLog, logged};
+ghost use Rattle.card_log.specs.Journal.{GoodLog, logged};
 ghost use Rattle.state.specs.Whole.{Whole};
 ghost use Rattle.transactions.specs.Calls.{idle as idleOf, no_volume, with_ops, stopped as stoppedOf, ended as ended_of, refused};
 ghost use Rattle.transactions.specs.Calls.{Recovered, Committed, MountGives, BeginGives, EndGives};
@@ -115,8 +116,8 @@ fn recover(image: &mut [u8], sb: Super, writes: usize) -> After
     ensures { Recovered image.old writes (result, image.new) }
 {
     let n = base::place(base::get_u32(image, 2048));
-    let w = log::recover(image, writes);
-    if w < log::recover_due(n) {
+    let w = card_log::recover(image, writes);
+    if w < card_log::recover_due(n) {
         After {
             volume: no_volume(),
             answer: Answer::Cut(w),
@@ -140,7 +141,7 @@ pub fn mount(image: &mut [u8], cache: &[u8], writes: usize) -> After
         return refuse(no_volume(), Refusal::BadSuper);
     }
     let sb = superblock::super_of(image);
-    if !log::good_header(image, sb) {
+    if !card_log::good_header(image, sb) {
         return refuse(no_volume(), Refusal::BadLog);
     }
     recover(image, sb, writes)
@@ -172,8 +173,8 @@ fn commit(v: Volume, image: &mut [u8], cache: &[u8], writes: usize) -> After
 {
     let n = base::place(v.recorded);
     let bufs = buffers(&v.table.blocks, &v.table.counts, &v.homes, n);
-    let w = log::commit(image, cache, &v.homes, &bufs, n, writes);
-    if w < log::commit_due(n) {
+    let w = card_log::commit(image, cache, &v.homes, &bufs, n, writes);
+    if w < card_log::commit_due(n) {
         After {
             volume: stopped(v),
             answer: Answer::Cut(w),

@@ -2,8 +2,8 @@
 use mathlib.Core.Path.{◌≡◌, ◌∙◌, sym}
 use native.Mathlib.Omega.{arith}
 use Rattle.base.specs.Bytes.{bytes}
-use Rattle.log.specs.Journal.{logged}
-use Rattle.log.specs.Headers.{log_length}
+use Rattle.card_log.specs.Journal.{logged}
+use Rattle.card_log.specs.Headers.{log_length}
 use Rattle.transactions.specs.Turns.{can_recover, recover-cut, recover_done}
 use borrow.Author.Rules.{rules}
 use Rattle.transactions.proofs.recover.Statement.{statement}
