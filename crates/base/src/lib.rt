@@ -11,7 +11,7 @@ ghost use Rattle.base.specs.Bit.{bit_at, with_bit};
 ghost use Rattle.base.specs.Refusals.{number};
 
 // Document 01's refusals, 1 to 18 in its order.
-#[derive(Drop)]
+#[derive(Clone, Copy)]
 pub enum Refusal {
     NotWhole,
     BadCall,

@@ -14,7 +14,7 @@ ghost use Rattle.bio.specs.Part.{IsPart, IsBlock};
 // For each buffer its block and its references; and the buffers, most recently released first. A buffer that holds nothing has a block
 // number that no card has.
 #[repr(C)]
-#[derive(Drop)]
+#[derive(Clone, Copy)]
 pub struct Table {
     pub blocks: [u32; 30],
     pub counts: [u32; 30],

@@ -13,7 +13,7 @@ use base::Refusal;
 use bio::Table;
 
 // A get answers the buffer, the other calls that they are done; or a refusal.
-#[derive(Drop)]
+#[derive(Clone, Copy)]
 pub enum Answer {
     Buffer(usize),
     Done,
@@ -21,7 +21,7 @@ pub enum Answer {
 }
 
 // The table that a call leaves, and its answer.
-#[derive(Drop)]
+#[derive(Clone, Copy)]
 pub struct After {
     pub table: Table,
     pub answer: Answer,

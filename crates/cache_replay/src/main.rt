@@ -10,13 +10,13 @@ use bio::Table;
 use cache::{After, Answer};
 
 // A number of the text, and the place behind it.
-#[derive(Drop)]
+#[derive(Clone, Copy)]
 struct Token {
     value: u32,
     next: usize,
 }
 
-#[derive(Drop)]
+#[derive(Clone, Copy)]
 struct Tally {
     steps: u32,
     differences: u32,

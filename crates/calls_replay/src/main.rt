@@ -10,7 +10,7 @@ use state::{Handle, Volume};
 use volume::{Closing, Opening, Reading, Stating};
 
 // The volume, and the handles given since mount; `from` is the number of the one that a relative path starts at.
-#[derive(Drop)]
+#[derive(Clone, Copy)]
 struct Session {
     volume: Volume,
     slots: [u32; 64],

@@ -12,7 +12,7 @@ ghost use Rattle.dir.specs.Entries.{entry_is, look_in};
 use superblock::Inode;
 
 // Where a name is in a directory: the inode's number, widened from its entry, and the entry.
-#[derive(Drop)]
+#[derive(Clone, Copy)]
 pub enum Found {
     At { inum: u32, entry: u32 },
     Missing,

@@ -13,7 +13,7 @@ ghost use Rattle.format.specs.Give.{FormatGives};
 use base::Refusal;
 use superblock::{Entry, Inode, Super};
 
-#[derive(Drop)]
+#[derive(Clone, Copy)]
 pub enum Answer {
     Done,
     Refused(Refusal),

@@ -10,7 +10,7 @@ ghost use Rattle.path.specs.Parts.{path_len, start_of, end_of, part_of, is_end};
 ghost use Rattle.path.specs.Names.{name_of, same_name};
 
 // The next component of a path: its bytes are those from start up to end.
-#[derive(Drop)]
+#[derive(Clone, Copy)]
 pub enum Part {
     Name { start: usize, end: usize },
     End,

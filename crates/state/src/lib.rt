@@ -15,7 +15,7 @@ use superblock::Super;
 
 // Which inode each slot is for, and how many handles refer to it: 0 is a free slot.
 #[repr(C)]
-#[derive(Drop)]
+#[derive(Clone, Copy)]
 pub struct Slots {
     pub inums: [u32; 50],
     pub refs: [u32; 50],
@@ -23,7 +23,7 @@ pub struct Slots {
 
 // A volume. The first `recorded` homes are the blocks that the next commit writes; `ops` operations are open; `live` is 1 for a mounted volume.
 #[repr(C)]
-#[derive(Drop)]
+#[derive(Clone, Copy)]
 pub struct Volume {
     pub sb: Super,
     pub table: Table,
@@ -36,7 +36,7 @@ pub struct Volume {
 
 // An open inode: its slot, and the inode's number.
 #[repr(C)]
-#[derive(Drop)]
+#[derive(Clone, Copy)]
 pub struct Handle {
     pub slot: u32,
     pub inum: u32,

@@ -15,7 +15,7 @@ ghost use Rattle.superblock.specs.Blank.{Blank};
 
 // The superblock's numbers. The log starts at block 2 on every good card, so that number is not kept.
 #[repr(C)]
-#[derive(Drop)]
+#[derive(Clone, Copy)]
 pub struct Super {
     pub size: u32,
     pub nblocks: u32,
@@ -26,7 +26,7 @@ pub struct Super {
 }
 
 // An inode, kept as the bits on the card: kind, major, minor and nlink are 16 bits each.
-#[derive(Drop)]
+#[derive(Clone, Copy)]
 pub struct Inode {
     pub kind: u16,
     pub major: u16,
@@ -37,7 +37,7 @@ pub struct Inode {
 }
 
 // A directory entry: an inode's number, 0 where the entry is free, and the name's 14 bytes.
-#[derive(Drop)]
+#[derive(Clone, Copy)]
 pub struct Entry {
     pub inum: u16,
     pub name: [u8; 14],

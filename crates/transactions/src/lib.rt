@@ -18,7 +18,7 @@ use state::{Slots, Volume};
 use superblock::Super;
 
 // Done, or cut, with the number of block writes that reached the card; or a refusal.
-#[derive(Drop)]
+#[derive(Clone, Copy)]
 pub enum Answer {
     Done(usize),
     Cut(usize),
@@ -26,7 +26,7 @@ pub enum Answer {
 }
 
 // The state that a call leaves, and its answer.
-#[derive(Drop)]
+#[derive(Clone, Copy)]
 pub struct After {
     pub volume: Volume,
     pub answer: Answer,

@@ -17,49 +17,49 @@ use state::{Handle, Volume};
 use walk::Walk;
 
 // What each call answers, and what it leaves.
-#[derive(Drop)]
+#[derive(Clone, Copy)]
 pub enum Opening {
     Done(Handle),
     Refused(Refusal),
 }
 
-#[derive(Drop)]
+#[derive(Clone, Copy)]
 pub struct AfterOpen {
     pub volume: Volume,
     pub answer: Opening,
 }
 
-#[derive(Drop)]
+#[derive(Clone, Copy)]
 pub enum Closing {
     Done,
     Refused(Refusal),
 }
 
-#[derive(Drop)]
+#[derive(Clone, Copy)]
 pub struct AfterClose {
     pub volume: Volume,
     pub answer: Closing,
 }
 
-#[derive(Drop)]
+#[derive(Clone, Copy)]
 pub enum Reading {
     Done(usize),
     Refused(Refusal),
 }
 
-#[derive(Drop)]
+#[derive(Clone, Copy)]
 pub struct AfterRead {
     pub volume: Volume,
     pub answer: Reading,
 }
 
-#[derive(Drop)]
+#[derive(Clone, Copy)]
 pub enum Stating {
     Done { kind: u16, nlink: i16, size: u32 },
     Refused(Refusal),
 }
 
-#[derive(Drop)]
+#[derive(Clone, Copy)]
 pub struct AfterStat {
     pub volume: Volume,
     pub answer: Stating,

@@ -15,7 +15,7 @@ use path::Part;
 use superblock::Super;
 
 // One step: to another inode, past the bytes of the path that named it; no component is left; or a refusal.
-#[derive(Drop)]
+#[derive(Clone, Copy)]
 pub enum Step {
     To { inum: u32, used: usize },
     Stay,
@@ -23,7 +23,7 @@ pub enum Step {
 }
 
 // What a walk answers: the inode's number, or the first refusal that it meets.
-#[derive(Drop)]
+#[derive(Clone, Copy)]
 pub enum Walk {
     Reached(u32),
     Refused(Refusal),
@@ -31,7 +31,7 @@ pub enum Walk {
 
 // What a walk to the parent answers: the directory in which the last component is to be sought, with that component's place in the path, from
 // start up to end; or the first refusal.
-#[derive(Drop)]
+#[derive(Clone, Copy)]
 pub enum Parent {
     Dir { inum: u32, start: usize, end: usize },
     Not(Refusal),

@@ -8,7 +8,7 @@ use lib.ListN.{length}
 use Rattle.base.specs.Bytes.{bytes}
 use Rattle.superblock.specs.Disk.{disk}
 use Rattle.rules.specs.Fit.{held, count}
-use Rattle.base.specs.Decide.{so, not_so, never, denied, passed}
+use Rattle.base.specs.Decide.{so, not_so, never, no_by, yes_by}
 use Rattle.blocks.specs.Marks.{marked_all, Fresh, turn_all, turn_all_fresh, turn_all_stale, held_fits}
 use borrow.Author.Rules.{rules}
 use Rattle.blocks.proofs.mark_all.Statement.{statement}
@@ -37,7 +37,7 @@ same_length : tie.Need-same-length invariant-loop decreases-loop
 same_length c = search rules
 
 returns : tie.Need-returns invariant-loop decreases-loop
-returns c = let l = c.before.before.before.before.before.before.before.loop in (not_so (turn_all_stale _ _ _ l.i _ l.invariant.2 c.before.before.before.before.before.count_of.ensures.eq _ c.before.before.before.before.before.before.loop-test.true (denied c.before.before.before.mark-slots.ensures.0 c.if1.true)), never)
+returns c = let l = c.before.before.before.before.before.before.before.loop in (not_so (turn_all_stale _ _ _ l.i _ l.invariant.2 c.before.before.before.before.before.count_of.ensures.eq _ c.before.before.before.before.before.before.loop-test.true (no_by c.before.before.before.mark-slots.ensures.0 c.if1.true)), never)
 
 add-i : tie.Need-overflow-add-i invariant-loop decreases-loop
 add-i c = search rules
@@ -46,7 +46,7 @@ loop-less : tie.Need-loop-smaller invariant-loop decreases-loop
 loop-less c = search rules
 
 loop-again : tie.Need-loop-preserved invariant-loop decreases-loop
-loop-again c = let l = c.before.before.before.before.before.before.before.loop in (search rules, search rules, turn_all _ _ _ l.i _ l.invariant.2 c.before.before.before.before.before.count_of.ensures.eq _ (c.before.before.before.mark-slots.ensures.1 (not-false _ c.if1.false)), below_more _ _ l.invariant.3 (turn_all_fresh _ _ _ l.i _ l.invariant.2 c.before.before.before.before.before.count_of.ensures.eq (passed c.before.before.before.mark-slots.ensures.0 c.if1.false)))
+loop-again c = let l = c.before.before.before.before.before.before.before.loop in (search rules, search rules, turn_all _ _ _ l.i _ l.invariant.2 c.before.before.before.before.before.count_of.ensures.eq _ (c.before.before.before.mark-slots.ensures.1 (not-false _ c.if1.false)), below_more _ _ l.invariant.3 (turn_all_fresh _ _ _ l.i _ l.invariant.2 c.before.before.before.before.before.count_of.ensures.eq (yes_by c.before.before.before.mark-slots.ensures.0 c.if1.false)))
 
 same-length-2 : tie.Need-same-length-2 invariant-loop decreases-loop
 same-length-2 c = search rules

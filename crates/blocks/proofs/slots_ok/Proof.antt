@@ -4,7 +4,7 @@ use native.Mathlib.Omega.{arith}
 use borrow.Author.Count.{below_more}
 use Rattle.base.specs.Bytes.{bytes}
 use Rattle.superblock.specs.Disk.{disk}
-use Rattle.base.specs.Decide.{so, not_so, denied, passed}
+use Rattle.base.specs.Decide.{so, not_so, no_by, yes_by}
 use Rattle.blocks.specs.Fits.{SlotOk}
 use borrow.Author.Rules.{rules}
 use Rattle.blocks.proofs.slots_ok.Statement.{statement}
@@ -23,7 +23,7 @@ slot-ok-requires : tie.Need-slot-ok-requires invariant-loop decreases-loop
 slot-ok-requires c κs = search rules
 
 returns : tie.Need-returns invariant-loop decreases-loop
-returns c = not_so (λ f. denied c.before.Slot-ok.ensures c.if1.true (f c.before.before.before.loop.p c.before.before.loop-test.true))
+returns c = not_so (λ f. no_by c.before.Slot-ok.ensures c.if1.true (f c.before.before.before.loop.p c.before.before.loop-test.true))
 
 add-p : tie.Need-overflow-add-p invariant-loop decreases-loop
 add-p c = search rules
@@ -32,7 +32,7 @@ loop-less : tie.Need-loop-smaller invariant-loop decreases-loop
 loop-less c = search rules
 
 loop-again : tie.Need-loop-preserved invariant-loop decreases-loop
-loop-again c = (search rules, below_more _ _ c.before.before.before.loop.invariant.1 (passed c.before.Slot-ok.ensures c.if1.false))
+loop-again c = (search rules, below_more _ _ c.before.before.before.loop.invariant.1 (yes_by c.before.Slot-ok.ensures c.if1.false))
 
 returns-2 : tie.Need-returns-2 invariant-loop decreases-loop
 returns-2 c = so (λ q h. c.before.loop.invariant.1 q (omega arith))

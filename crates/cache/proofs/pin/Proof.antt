@@ -3,7 +3,7 @@ use mathlib.Core.Path.{◌∙◌, ap, sym}
 use mathlib.Core.Logic.{inl, inr}
 use Prim.Native.Nat.{ℕ, ◌+◌}
 use native.Mathlib.Omega.{arith}
-use Rattle.base.specs.Decide.{denied, passed}
+use Rattle.base.specs.Decide.{no_by, yes_by}
 use Rattle.cache.specs.Tables.{with_count}
 use Rattle.cache.specs.Calls.{went_as}
 use borrow.Author.Rules.{rules}
@@ -17,13 +17,13 @@ refuse-requires : tie.Need-refuse-requires
 refuse-requires c κs = search rules
 
 returns : tie.Need-returns
-returns c = inl (denied c.before.before.well-formed-2.ensures c.before.if1.true, c.refuse.ensures)
+returns c = inl (no_by c.before.before.well-formed-2.ensures c.before.if1.true, c.refuse.ensures)
 
 refuse-requires-2 : tie.Need-refuse-requires-2
 refuse-requires-2 c κs = search rules
 
 returns-2 : tie.Need-returns-2
-returns-2 c = inr (λ f. f (passed c.before.before.before.well-formed-2.ensures c.before.before.if1.false), inl (c.before.if2.true, c.refuse2.ensures))
+returns-2 c = inr (λ f. f (yes_by c.before.before.before.well-formed-2.ensures c.before.before.if1.false), inl (c.before.if2.true, c.refuse2.ensures))
 
 number-at-requires : tie.Need-number-at-requires
 number-at-requires c κs = search rules
@@ -32,16 +32,16 @@ refuse-requires-3 : tie.Need-refuse-requires-3
 refuse-requires-3 c κs = search rules
 
 returns-3 : tie.Need-returns-3
-returns-3 c = inr (λ f. f (passed c.before.before.before.before.before.before.before.well-formed-2.ensures c.before.before.before.before.before.before.if1.false), inr (λ h. omega arith, inl (sym c.before.before.number_at.ensures ∙ c.before.if3.true, c.refuse3.ensures)))
+returns-3 c = inr (λ f. f (yes_by c.before.before.before.before.before.before.before.well-formed-2.ensures c.before.before.before.before.before.before.if1.false), inr (λ h. omega arith, inl (sym c.before.before.number_at.ensures ∙ c.before.if3.true, c.refuse3.ensures)))
 
 refuse-requires-4 : tie.Need-refuse-requires-4
 refuse-requires-4 c κs = search rules
 
 returns-4 : tie.Need-returns-4
-returns-4 c = inr (λ f. f (passed c.before.before.before.before.before.before.before.before.well-formed-2.ensures c.before.before.before.before.before.before.before.if1.false), inr (λ h. omega arith, inr (λ h. c.before.before.if3.false (c.before.before.before.number_at.ensures ∙ h), inl (sym c.before.before.before.number_at.ensures ∙ c.before.if4.true, c.refuse4.ensures))))
+returns-4 c = inr (λ f. f (yes_by c.before.before.before.before.before.before.before.before.well-formed-2.ensures c.before.before.before.before.before.before.before.if1.false), inr (λ h. omega arith, inr (λ h. c.before.before.if3.false (c.before.before.before.number_at.ensures ∙ h), inl (sym c.before.before.before.number_at.ensures ∙ c.before.if4.true, c.refuse4.ensures))))
 
 add-with-count : tie.Need-overflow-add-with-count
-add-with-count c = omega (arith, c.before.before.number_at.ensures, (passed c.before.before.before.before.before.before.before.well-formed-2.ensures c.before.before.before.before.before.before.if1.false).counts.each c.before.before.before.before.before.before.before.before.args.index (omega arith))
+add-with-count c = omega (arith, c.before.before.number_at.ensures, (yes_by c.before.before.before.before.before.before.before.well-formed-2.ensures c.before.before.before.before.before.before.if1.false).counts.each c.before.before.before.before.before.before.before.before.args.index (omega arith))
 
 with-count-requires : tie.Need-with-count-requires
 with-count-requires c κs = search rules
@@ -51,7 +51,7 @@ done-requires c κs = search rules
 
 returns-5 : tie.Need-returns-5
 returns-5 c = inr (
-  λ f. f (passed c.before.before.before.before.before.before.before.before.before.well-formed-2.ensures c.before.before.before.before.before.before.before.before.if1.false),
+  λ f. f (yes_by c.before.before.before.before.before.before.before.before.before.well-formed-2.ensures c.before.before.before.before.before.before.before.before.if1.false),
   inr (
     λ h. omega arith,
     inr (

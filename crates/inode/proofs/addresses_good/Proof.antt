@@ -4,7 +4,7 @@ use Prim.Native.Nat.{ℕ, ◌-◌, ◌<◌, ◌≤◌}
 use lib.ListN.{get_or}
 use Rattle.base.specs.Bytes.{bytes}
 use borrow.Author.Count.{below_more}
-use Rattle.base.specs.Decide.{so, denied, passed}
+use Rattle.base.specs.Decide.{so, no_by, yes_by}
 use Rattle.inode.specs.Slots.{SlotGood}
 use Rattle.inode.specs.Fitness.{each_no}
 use borrow.Author.Rules.{rules}
@@ -30,7 +30,7 @@ slot-good-requires : tie.Need-slot-good-requires invariant-loop decreases-loop
 slot-good-requires c κs = search rules
 
 returns : tie.Need-returns invariant-loop decreases-loop
-returns c = each_no (λ j. SlotGood c.before.before.before.before.before.before.args.s (bytes c.before.before.before.before.before.before.args.map.now) c.before.before.before.before.before.before.args.n j (get_or c.before.before.before.before.before.before.args.t3.addrs j 0)) 13 c.before.before.before.before.loop.p c.before.before.before.loop-test.true (denied c.before.slot-good.ensures c.if1.true)
+returns c = each_no (λ j. SlotGood c.before.before.before.before.before.before.args.s (bytes c.before.before.before.before.before.before.args.map.now) c.before.before.before.before.before.before.args.n j (get_or c.before.before.before.before.before.before.args.t3.addrs j 0)) 13 c.before.before.before.before.loop.p c.before.before.before.loop-test.true (no_by c.before.slot-good.ensures c.if1.true)
 
 add-p : tie.Need-overflow-add-p invariant-loop decreases-loop
 add-p c = search rules
@@ -39,7 +39,7 @@ loop-less : tie.Need-loop-smaller invariant-loop decreases-loop
 loop-less c = search rules
 
 loop-again : tie.Need-loop-preserved invariant-loop decreases-loop
-loop-again c = (search rules, below_more _ _ c.before.before.before.before.loop.invariant.1 (passed c.before.slot-good.ensures c.if1.false))
+loop-again c = (search rules, below_more _ _ c.before.before.before.before.loop.invariant.1 (yes_by c.before.slot-good.ensures c.if1.false))
 
 returns-2 : tie.Need-returns-2 invariant-loop decreases-loop
 returns-2 c = so (λ j h. c.before.loop.invariant.1 j (omega arith))

@@ -4,7 +4,7 @@ use Prim.Native.Nat.{ℕ, ◌+◌, ◌-◌, ◌*◌, ◌<◌, ◌≤◌}
 use Rattle.base.specs.Bytes.{bytes}
 use borrow.Author.Count.{below_more}
 use Rattle.base.specs.Number.{get}
-use Rattle.base.specs.Decide.{so, denied, passed}
+use Rattle.base.specs.Decide.{so, no_by, yes_by}
 use Rattle.inode.specs.Slots.{SlotGood}
 use Rattle.inode.specs.Fitness.{each_no}
 use Rattle.inode.specs.Tail.{tail_good, used_good}
@@ -45,7 +45,7 @@ taken-requires c κs = search rules
 returns-2 : tie.Need-returns-2 invariant-loop decreases-loop
 returns-2 c =
     each_no (λ j. SlotGood c.before.before.before.before.before.before.before.before.args.s (bytes c.before.before.before.before.before.before.before.before.args.map.now) c.before.before.before.before.before.before.before.before.args.n (12 + j) (get (bytes c.before.before.before.before.before.before.before.before.args.table.now) (4 * j) 4))
-    256 c.before.before.before.before.before.loop.k c.before.before.before.before.loop-test.true (λ p. denied c.before.taken.ensures c.if2.true (rw c.before.before.read_u32.ensures (p.first (omega arith))))
+    256 c.before.before.before.before.before.loop.k c.before.before.before.before.loop-test.true (λ p. no_by c.before.taken.ensures c.if2.true (rw c.before.before.read_u32.ensures (p.first (omega arith))))
 
 add-k : tie.Need-overflow-add-k invariant-loop decreases-loop
 add-k c = search rules
@@ -54,7 +54,7 @@ loop-less : tie.Need-loop-smaller invariant-loop decreases-loop
 loop-less c = search rules
 
 loop-again : tie.Need-loop-preserved invariant-loop decreases-loop
-loop-again c = (search rules, below_more _ _ c.before.before.before.before.before.loop.invariant.1 (used_good _ _ _ _ _ (omega arith) (rw c.before.before.read_u32.ensures at (passed c.before.taken.ensures c.if2.false))))
+loop-again c = (search rules, below_more _ _ c.before.before.before.before.before.loop.invariant.1 (used_good _ _ _ _ _ (omega arith) (rw c.before.before.read_u32.ensures at (yes_by c.before.taken.ensures c.if2.false))))
 
 returns-3 : tie.Need-returns-3 invariant-loop decreases-loop
 returns-3 c = so (λ j h. c.before.loop.invariant.1 j (omega arith))

@@ -4,7 +4,7 @@ use native.Mathlib.Omega.{arith}
 use Rattle.base.specs.Bytes.{bytes}
 use Rattle.superblock.specs.Disk.{disk}
 use Rattle.rules.specs.Tree.{tree}
-use Rattle.base.specs.Decide.{so, not_so, denied, passed}
+use Rattle.base.specs.Decide.{so, not_so, no_by, yes_by}
 use Rattle.links.specs.Counts.{LinkOk, from_more}
 use borrow.Author.Rules.{rules}
 use Rattle.links.proofs.links_ok.Statement.{statement}
@@ -32,7 +32,7 @@ link-ok-requires : tie.Need-link-ok-requires invariant-loop decreases-loop
 link-ok-requires c κs = search rules
 
 returns : tie.Need-returns invariant-loop decreases-loop
-returns c = not_so (λ f. denied c.before.link-ok.ensures c.if1.true (f c.before.before.before.before.loop.i (omega arith) c.before.before.before.loop-test.true))
+returns c = not_so (λ f. no_by c.before.link-ok.ensures c.if1.true (f c.before.before.before.before.loop.i (omega arith) c.before.before.before.loop-test.true))
 
 add-i : tie.Need-overflow-add-i invariant-loop decreases-loop
 add-i c = search rules
@@ -41,7 +41,7 @@ loop-less : tie.Need-loop-smaller invariant-loop decreases-loop
 loop-less c = search rules
 
 loop-again : tie.Need-loop-preserved invariant-loop decreases-loop
-loop-again c = (search rules, search rules, from_more _ c.before.before.before.before.loop.i c.before.before.before.before.loop.invariant.2 (passed c.before.link-ok.ensures c.if1.false))
+loop-again c = (search rules, search rules, from_more _ c.before.before.before.before.loop.i c.before.before.before.before.loop.invariant.2 (yes_by c.before.link-ok.ensures c.if1.false))
 
 returns-2 : tie.Need-returns-2 invariant-loop decreases-loop
 returns-2 c = so (λ q p h. c.before.loop.invariant.2 q p (omega arith))

@@ -1,6 +1,6 @@
 -- dir_ok: "." and "..", then all entries.
 use native.Mathlib.Omega.{arith}
-use Rattle.base.specs.Decide.{not_so, denied, passed}
+use Rattle.base.specs.Decide.{not_so, no_by, yes_by}
 use Rattle.reads.specs.Read.{is_to}
 use Rattle.names.specs.Names.{dir_self, dir_entries, dots-at}
 use borrow.Author.Rules.{rules}
@@ -20,7 +20,7 @@ is-dots-requires : tie.Need-is-dots-requires
 is-dots-requires c κs = c.before.before.spot.ensures.small
 
 returns-2 : tie.Need-returns-2
-returns-2 c = not_so (λ d. denied (dots-at _ _ _ _ _ c.before.before.before.before.spot.ensures _ _ c.before.is-dots.ensures) c.if2.true d.self_name)
+returns-2 c = not_so (λ d. no_by (dots-at _ _ _ _ _ c.before.before.before.before.spot.ensures _ _ c.before.is-dots.ensures) c.if2.true d.self_name)
 
 spot-requires-2 : tie.Need-spot-requires-2
 spot-requires-2 c κs = (c.before.before.before.before.before.before.requires.0, c.before.before.before.before.before.before.requires.1, omega arith, c.before.before.before.before.before.before.requires.2.dir, omega (arith, c.before.before.before.before.before.before.requires.2.room, c.before.before.before.before.before.before.requires.2.two))
@@ -29,13 +29,13 @@ is-dots-requires-2 : tie.Need-is-dots-requires-2
 is-dots-requires-2 c κs = c.spot2.ensures.small
 
 returns-3 : tie.Need-returns-3
-returns-3 c = not_so (λ d. denied (dots-at _ _ _ _ _ c.before.before.spot2.ensures _ _ c.before.is-dots2.ensures) c.if3.true d.up_name)
+returns-3 c = not_so (λ d. no_by (dots-at _ _ _ _ _ c.before.before.spot2.ensures _ _ c.before.is-dots2.ensures) c.if3.true d.up_name)
 
 entries-ok-requires : tie.Need-entries-ok-requires
 entries-ok-requires c κs = search rules
 
 returns-4 : tie.Need-returns-4
-returns-4 c = dir_entries _ _ _ _ c.before.before.before.before.before.before.before.before.before.before.requires.2.ends (is_to _ c.before.before.before.before.before.before.before.num2.ensures c.before.before.before.before.before.before.before.before.spot.ensures.num) c.before.before.before.before.before.before.if1.false _ (passed (dots-at _ _ _ _ _ c.before.before.before.before.before.before.before.before.spot.ensures _ _ c.before.before.before.before.before.is-dots.ensures) c.before.before.before.before.if2.false) (passed (dots-at _ _ _ _ _ c.before.before.before.spot2.ensures _ _ c.before.before.is-dots2.ensures) c.before.if3.false) c.entries-ok.ensures
+returns-4 c = dir_entries _ _ _ _ c.before.before.before.before.before.before.before.before.before.before.requires.2.ends (is_to _ c.before.before.before.before.before.before.before.num2.ensures c.before.before.before.before.before.before.before.before.spot.ensures.num) c.before.before.before.before.before.before.if1.false _ (yes_by (dots-at _ _ _ _ _ c.before.before.before.before.before.before.before.before.spot.ensures _ _ c.before.before.before.before.before.is-dots.ensures) c.before.before.before.before.if2.false) (yes_by (dots-at _ _ _ _ _ c.before.before.before.spot2.ensures _ _ c.before.before.is-dots2.ensures) c.before.if3.false) c.entries-ok.ensures
 
 pub dir-ok-spec : {M : Type 1} → statement M
 dir-ok-spec =

@@ -1,6 +1,6 @@
 -- entry_ok: each field of EntryOk by one test.
 use native.Mathlib.Omega.{arith}
-use Rattle.base.specs.Decide.{denied, passed}
+use Rattle.base.specs.Decide.{no_by, yes_by}
 use Rattle.reads.specs.Read.{is_to}
 use Rattle.names.specs.Names.{entry_free, entry_twice, entry-dots, entry_dead, entry_name, good_at}
 use borrow.Author.Rules.{rules}
@@ -20,22 +20,22 @@ fresh-name-requires : tie.Need-fresh-name-requires
 fresh-name-requires c κs = search rules
 
 returns-2 : tie.Need-returns-2
-returns-2 c = entry_twice _ _ _ _ (is_to _ c.before.before.before.num2.ensures c.before.before.before.before.spot.ensures.num) c.before.before.if1.false (denied c.before.fresh-name.ensures c.if2.true)
+returns-2 c = entry_twice _ _ _ _ (is_to _ c.before.before.before.num2.ensures c.before.before.before.before.spot.ensures.num) c.before.before.if1.false (no_by c.before.fresh-name.ensures c.if2.true)
 
 returns-3 : tie.Need-returns-3
-returns-3 c = entry-dots _ _ _ _ (is_to _ c.before.before.before.before.num2.ensures c.before.before.before.before.before.spot.ensures.num) c.before.before.before.if1.false (passed c.before.before.fresh-name.ensures c.before.if2.false) c.if3.true
+returns-3 c = entry-dots _ _ _ _ (is_to _ c.before.before.before.before.num2.ensures c.before.before.before.before.before.spot.ensures.num) c.before.before.before.if1.false (yes_by c.before.before.fresh-name.ensures c.before.if2.false) c.if3.true
 
 kind-requires : tie.Need-kind-requires
 kind-requires c κs = search rules
 
 returns-4 : tie.Need-returns-4
-returns-4 c = entry_dead _ _ _ _ (is_to _ c.before.before.before.before.before.before.num2.ensures c.before.before.before.before.before.before.before.spot.ensures.num) c.before.before.before.before.before.if1.false (passed c.before.before.before.before.fresh-name.ensures c.before.before.before.if2.false) c.before.before.if3.false _ c.before.kind.ensures c.if4.true
+returns-4 c = entry_dead _ _ _ _ (is_to _ c.before.before.before.before.before.before.num2.ensures c.before.before.before.before.before.before.before.spot.ensures.num) c.before.before.before.before.before.if1.false (yes_by c.before.before.before.before.fresh-name.ensures c.before.before.before.if2.false) c.before.before.if3.false _ c.before.kind.ensures c.if4.true
 
 good-name-requires : tie.Need-good-name-requires
 good-name-requires c κs = c.before.before.before.before.before.before.before.spot.ensures.small
 
 returns-5 : tie.Need-returns-5
-returns-5 c = entry_name _ _ _ _ (is_to _ c.before.before.before.before.before.before.before.num2.ensures c.before.before.before.before.before.before.before.before.spot.ensures.num) c.before.before.before.before.before.before.if1.false (passed c.before.before.before.before.before.fresh-name.ensures c.before.before.before.before.if2.false) c.before.before.before.if3.false _ c.before.before.kind.ensures _ c.before.if4.false (good_at _ _ _ _ _ c.before.before.before.before.before.before.before.before.spot.ensures _ c.good-name.ensures)
+returns-5 c = entry_name _ _ _ _ (is_to _ c.before.before.before.before.before.before.before.num2.ensures c.before.before.before.before.before.before.before.before.spot.ensures.num) c.before.before.before.before.before.before.if1.false (yes_by c.before.before.before.before.before.fresh-name.ensures c.before.before.before.before.if2.false) c.before.before.before.if3.false _ c.before.before.kind.ensures _ c.before.if4.false (good_at _ _ _ _ _ c.before.before.before.before.before.before.before.before.spot.ensures _ c.good-name.ensures)
 
 pub entry-ok-spec : {M : Type 1} → statement M
 entry-ok-spec =

@@ -3,7 +3,7 @@ use Prim.Native.Nat.{ℕ, ◌<◌, ◌≤◌, ◌-◌}
 use native.Mathlib.Omega.{arith}
 use borrow.Author.Count.{below_more}
 use Rattle.base.specs.Bytes.{bytes}
-use Rattle.base.specs.Decide.{so, not_so, denied, passed}
+use Rattle.base.specs.Decide.{so, not_so, no_by, yes_by}
 use mathlib.Core.Logic.{◌≢◌}
 use Rattle.superblock.specs.Disk.{disk}
 use Rattle.rules.specs.Tree.{num_of, name_of, SameName}
@@ -28,7 +28,7 @@ differs-requires : tie.Need-differs-requires invariant-loop decreases-loop
 differs-requires c κs = (c.before.before.before.before.requires.4.small, c.spot.ensures.small)
 
 returns : tie.Need-returns invariant-loop decreases-loop
-returns c = not_so (λ f. denied c.before.differs.ensures c.if1.true (differs_from _ _ _ _ _ _ _ c.before.before.before.before.before.before.requires.4 c.before.before.spot.ensures (f c.before.before.before.before.loop.l c.before.before.before.loop-test.true)))
+returns c = not_so (λ f. no_by c.before.differs.ensures c.if1.true (differs_from _ _ _ _ _ _ _ c.before.before.before.before.before.before.requires.4 c.before.before.spot.ensures (f c.before.before.before.before.loop.l c.before.before.before.loop-test.true)))
 
 add-l : tie.Need-overflow-add-l invariant-loop decreases-loop
 add-l c = search rules
@@ -37,7 +37,7 @@ loop-less : tie.Need-loop-smaller invariant-loop decreases-loop
 loop-less c = search rules
 
 loop-again : tie.Need-loop-preserved invariant-loop decreases-loop
-loop-again c = (search rules, below_more _ _ c.before.before.before.before.loop.invariant.1 (differs_to _ _ _ _ _ _ _ c.before.before.before.before.before.before.requires.4 c.before.before.spot.ensures (passed c.before.differs.ensures c.if1.false)))
+loop-again c = (search rules, below_more _ _ c.before.before.before.before.loop.invariant.1 (differs_to _ _ _ _ _ _ _ c.before.before.before.before.before.before.requires.4 c.before.before.spot.ensures (yes_by c.before.differs.ensures c.if1.false)))
 
 returns-2 : tie.Need-returns-2 invariant-loop decreases-loop
 returns-2 c = so (λ q h. c.before.loop.invariant.1 q (omega arith))

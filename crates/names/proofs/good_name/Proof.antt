@@ -3,7 +3,7 @@ use Prim.Native.Nat.{ℕ, ◌<◌, ◌≤◌, ◌-◌}
 use native.Mathlib.Omega.{arith}
 use borrow.Author.Count.{below_more}
 use Rattle.base.specs.Bytes.{bytes}
-use Rattle.base.specs.Decide.{so, not_so, denied, passed}
+use Rattle.base.specs.Decide.{so, not_so, no_by, yes_by}
 use Rattle.names.specs.Names.{LetterOk, name_at}
 use borrow.Author.Rules.{rules}
 use Rattle.names.proofs.good_name.Statement.{statement}
@@ -22,7 +22,7 @@ letter-ok-requires : tie.Need-letter-ok-requires invariant-loop decreases-loop
 letter-ok-requires c κs = search rules
 
 returns : tie.Need-returns invariant-loop decreases-loop
-returns c = not_so (λ f. denied c.before.letter-ok.ensures c.if1.true (f c.before.before.before.loop.t c.before.before.loop-test.true))
+returns c = not_so (λ f. no_by c.before.letter-ok.ensures c.if1.true (f c.before.before.before.loop.t c.before.before.loop-test.true))
 
 add-t : tie.Need-overflow-add-t invariant-loop decreases-loop
 add-t c = search rules
@@ -31,7 +31,7 @@ loop-less : tie.Need-loop-smaller invariant-loop decreases-loop
 loop-less c = search rules
 
 loop-again : tie.Need-loop-preserved invariant-loop decreases-loop
-loop-again c = (search rules, below_more _ _ c.before.before.before.loop.invariant.1 (passed c.before.letter-ok.ensures c.if1.false))
+loop-again c = (search rules, below_more _ _ c.before.before.before.loop.invariant.1 (yes_by c.before.letter-ok.ensures c.if1.false))
 
 returns-2 : tie.Need-returns-2 invariant-loop decreases-loop
 returns-2 c = so (λ q h. c.before.loop.invariant.1 q (omega arith))

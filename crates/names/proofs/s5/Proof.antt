@@ -4,7 +4,7 @@ use native.Mathlib.Omega.{arith}
 use mathlib.Core.Path.{◌≡◌}
 use borrow.Author.Count.{below_more}
 use Rattle.base.specs.Bytes.{bytes}
-use Rattle.base.specs.Decide.{so, not_so, denied, passed}
+use Rattle.base.specs.Decide.{so, not_so, no_by, yes_by}
 use Rattle.superblock.specs.Disk.{disk}
 use Rattle.rules.specs.Tree.{tree}
 use Rattle.rules.specs.Rules.{Dir}
@@ -29,7 +29,7 @@ dir-if-requires : tie.Need-dir-if-requires invariant-loop decreases-loop
 dir-if-requires c κs = search rules
 
 returns : tie.Need-returns invariant-loop decreases-loop
-returns c = not_so (λ s. denied c.before.dir-if.ensures c.if1.true (s.each c.before.before.before.loop.i))
+returns c = not_so (λ s. no_by c.before.dir-if.ensures c.if1.true (s.each c.before.before.before.loop.i))
 
 add-i : tie.Need-overflow-add-i invariant-loop decreases-loop
 add-i c = search rules
@@ -38,7 +38,7 @@ loop-less : tie.Need-loop-smaller invariant-loop decreases-loop
 loop-less c = search rules
 
 loop-again : tie.Need-loop-preserved invariant-loop decreases-loop
-loop-again c = (search rules, below_more _ _ c.before.before.before.loop.invariant.1 (passed c.before.dir-if.ensures c.if1.false))
+loop-again c = (search rules, below_more _ _ c.before.before.before.loop.invariant.1 (yes_by c.before.dir-if.ensures c.if1.false))
 
 returns-2 : tie.Need-returns-2 invariant-loop decreases-loop
 returns-2 c = so (s5_to _ c.before.before.before.before.requires.0 _ (λ q h. c.before.loop.invariant.1 q (omega arith)))

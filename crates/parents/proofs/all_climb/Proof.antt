@@ -4,7 +4,7 @@ use native.Mathlib.Omega.{arith}
 use mathlib.Core.Path.{◌≡◌}
 use borrow.Author.Count.{below_more}
 use Rattle.base.specs.Bytes.{bytes}
-use Rattle.base.specs.Decide.{so, not_so, denied, passed}
+use Rattle.base.specs.Decide.{so, not_so, no_by, yes_by}
 use Rattle.superblock.specs.Disk.{disk}
 use Rattle.rules.specs.Tree.{tree, Reaches}
 use borrow.Author.Rules.{rules}
@@ -27,7 +27,7 @@ climbs-if-requires : tie.Need-climbs-if-requires invariant-loop decreases-loop
 climbs-if-requires c κs = (c.before.before.before.before.requires.0, c.before.before.before.before.requires.1, c.before.before.before.before.requires.2 c.before.loop.i)
 
 returns : tie.Need-returns invariant-loop decreases-loop
-returns c = not_so (λ f. denied c.before.climbs-if.ensures c.if1.true (f c.before.before.before.loop.i c.before.before.loop-test.true))
+returns c = not_so (λ f. no_by c.before.climbs-if.ensures c.if1.true (f c.before.before.before.loop.i c.before.before.loop-test.true))
 
 add-i : tie.Need-overflow-add-i invariant-loop decreases-loop
 add-i c = search rules
@@ -36,7 +36,7 @@ loop-less : tie.Need-loop-smaller invariant-loop decreases-loop
 loop-less c = search rules
 
 loop-again : tie.Need-loop-preserved invariant-loop decreases-loop
-loop-again c = (search rules, below_more _ _ c.before.before.before.loop.invariant.1 (passed c.before.climbs-if.ensures c.if1.false))
+loop-again c = (search rules, below_more _ _ c.before.before.before.loop.invariant.1 (yes_by c.before.climbs-if.ensures c.if1.false))
 
 returns-2 : tie.Need-returns-2 invariant-loop decreases-loop
 returns-2 c = so (λ q h. c.before.loop.invariant.1 q (omega arith))

@@ -3,7 +3,7 @@ use Prim.Native.Nat.{ℕ, ◌<◌, ◌≤◌, ◌-◌}
 use native.Mathlib.Omega.{arith}
 use borrow.Author.Count.{below_more}
 use Rattle.base.specs.Bytes.{bytes}
-use Rattle.base.specs.Decide.{so, not_so, denied, passed}
+use Rattle.base.specs.Decide.{so, not_so, no_by, yes_by}
 use Rattle.superblock.specs.Disk.{disk}
 use Rattle.rules.specs.Tree.{tree}
 use Rattle.parents.specs.Climb.{HomeOk}
@@ -27,7 +27,7 @@ dir-home-requires : tie.Need-dir-home-requires invariant-loop decreases-loop
 dir-home-requires c κs = search rules
 
 returns : tie.Need-returns invariant-loop decreases-loop
-returns c = not_so (λ f. denied c.before.dir-home.ensures c.if1.true (f c.before.before.before.loop.j c.before.before.loop-test.true))
+returns c = not_so (λ f. no_by c.before.dir-home.ensures c.if1.true (f c.before.before.before.loop.j c.before.before.loop-test.true))
 
 add-j : tie.Need-overflow-add-j invariant-loop decreases-loop
 add-j c = search rules
@@ -36,7 +36,7 @@ loop-less : tie.Need-loop-smaller invariant-loop decreases-loop
 loop-less c = search rules
 
 loop-again : tie.Need-loop-preserved invariant-loop decreases-loop
-loop-again c = (search rules, below_more _ _ c.before.before.before.loop.invariant.1 (passed c.before.dir-home.ensures c.if1.false))
+loop-again c = (search rules, below_more _ _ c.before.before.before.loop.invariant.1 (yes_by c.before.dir-home.ensures c.if1.false))
 
 returns-2 : tie.Need-returns-2 invariant-loop decreases-loop
 returns-2 c = so (λ q h. c.before.loop.invariant.1 q (omega arith))

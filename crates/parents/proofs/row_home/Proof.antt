@@ -2,7 +2,7 @@
 use Prim.Native.Nat.{ℕ, ◌<◌, ◌≤◌, ◌-◌}
 use native.Mathlib.Omega.{arith}
 use Rattle.base.specs.Bytes.{bytes}
-use Rattle.base.specs.Decide.{so, not_so, denied, passed}
+use Rattle.base.specs.Decide.{so, not_so, no_by, yes_by}
 use Rattle.superblock.specs.Disk.{disk}
 use Rattle.rules.specs.Tree.{tree}
 use Rattle.parents.specs.Climb.{HomeOk, third_more}
@@ -23,7 +23,7 @@ home-ok-requires : tie.Need-home-ok-requires invariant-loop decreases-loop
 home-ok-requires c κs = search rules
 
 returns : tie.Need-returns invariant-loop decreases-loop
-returns c = not_so (λ f. denied c.before.home-ok.ensures c.if1.true (f c.before.before.before.loop.k c.before.before.before.loop.invariant.0 c.before.before.loop-test.true))
+returns c = not_so (λ f. no_by c.before.home-ok.ensures c.if1.true (f c.before.before.before.loop.k c.before.before.before.loop.invariant.0 c.before.before.loop-test.true))
 
 add-k : tie.Need-overflow-add-k invariant-loop decreases-loop
 add-k c = search rules
@@ -32,7 +32,7 @@ loop-less : tie.Need-loop-smaller invariant-loop decreases-loop
 loop-less c = search rules
 
 loop-again : tie.Need-loop-preserved invariant-loop decreases-loop
-loop-again c = (search rules, third_more _ c.before.before.before.loop.k c.before.before.before.loop.invariant.1 (passed c.before.home-ok.ensures c.if1.false))
+loop-again c = (search rules, third_more _ c.before.before.before.loop.k c.before.before.before.loop.invariant.1 (yes_by c.before.home-ok.ensures c.if1.false))
 
 returns-2 : tie.Need-returns-2 invariant-loop decreases-loop
 returns-2 c = so (λ q p h. c.before.loop.invariant.1 q p (omega arith))

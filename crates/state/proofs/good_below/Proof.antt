@@ -5,7 +5,7 @@ use mathlib.Core.Logic.{⊎_elim}
 use mathlib.Core.Path.{◌≡◌}
 use Prim.Native.Nat.{◌-◌, ◌≤◌}
 use lib.ListN.{get_or}
-use Rattle.base.specs.Decide.{so, not_so, denied, passed}
+use Rattle.base.specs.Decide.{so, not_so, no_by, yes_by}
 use Rattle.state.specs.Slots.{GoodSlot, GoodBelow}
 use borrow.Author.Rules.{rules}
 use Rattle.state.proofs.good_below.Statement.{statement}
@@ -30,7 +30,7 @@ good-slot-requires : tie.Need-good-slot-requires invariant-loop decreases-loop
 good-slot-requires c κs = search rules
 
 returns : tie.Need-returns invariant-loop decreases-loop
-returns c = not_so (λ g. denied c.before.good-slot.ensures c.if2.true (g _ c.before.before.before.before.loop-test.true c.before.before.if1.true))
+returns c = not_so (λ g. no_by c.before.good-slot.ensures c.if2.true (g _ c.before.before.before.before.loop-test.true c.before.before.if1.true))
 
 add-k : tie.Need-overflow-add-k invariant-loop decreases-loop
 add-k c = search rules
@@ -39,7 +39,7 @@ loop-less : tie.Need-loop-smaller invariant-loop decreases-loop
 loop-less c = search rules
 
 loop-again : tie.Need-loop-preserved invariant-loop decreases-loop
-loop-again c = (search rules, below_more (λ j. (get_or c.before.before.before.before.args.refs.now j 0 ≡ 0 → ⊥) → GoodSlot c.before.before.before.before.args.inums.now c.before.before.before.before.args.refs.now c.before.before.before.before.args.ninodes j) _ c.before.before.before.loop.invariant.1 (⊎_elim (λ w u. passed w.1.ensures w.2.left) (λ w u. absurd (u w.left)) c.if1.branch))
+loop-again c = (search rules, below_more (λ j. (get_or c.before.before.before.before.args.refs.now j 0 ≡ 0 → ⊥) → GoodSlot c.before.before.before.before.args.inums.now c.before.before.before.before.args.refs.now c.before.before.before.before.args.ninodes j) _ c.before.before.before.loop.invariant.1 (⊎_elim (λ w u. yes_by w.1.ensures w.2.left) (λ w u. absurd (u w.left)) c.if1.branch))
 
 returns-2 : tie.Need-returns-2 invariant-loop decreases-loop
 returns-2 c =

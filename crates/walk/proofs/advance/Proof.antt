@@ -3,7 +3,7 @@ use mathlib.Core.Path.{refl, sym, ◌∙◌}
 use native.Mathlib.Omega.{arith}
 use Prim.Native.Nat.{◌-◌}
 use borrow.Author.Tests.{not-true, not-false}
-use Rattle.base.specs.Decide.{passed}
+use Rattle.base.specs.Decide.{yes_by}
 use Rattle.inode.specs.Fetch.{fetched}
 use Rattle.path.specs.Parts.{part_within}
 use Rattle.walk.specs.Step.{step_unfit, step_end, step_no_directory, step_missing, step_to, step_outside}
@@ -45,7 +45,7 @@ part-dir-lookup-end : tie.Need-slice-bounds-dir-lookup-end
 part-dir-lookup-end c = omega (arith, part_within _ _ _ (sym c.before.before.before.before.before.component.ensures ∙ c.before.before.before.start.given.1))
 
 dir-lookup-requires : tie.Need-dir-lookup-requires
-dir-lookup-requires c κs = (passed c.before.before.before.before.before.before.before.before.fit.ensures c.before.before.before.before.before.before.before.if1.false).shape.small
+dir-lookup-requires c κs = (yes_by c.before.before.before.before.before.before.before.before.fit.ensures c.before.before.before.before.before.before.before.if1.false).shape.small
 
 enum-known-inum : tie.Need-enum-known-inum
 enum-known-inum c = search rules

@@ -1,0 +1,16 @@
+-- `superblock::put_addrs` meets its contract: the loop has put the first p addresses (`addrs_more`).
+use Prim.Native.Nat.{◌+◌, ◌*◌, ◌-◌, ◌≤◌}
+use mathlib.Core.Path.{◌≡◌, refl, sym}
+use native.Mathlib.Omega.{arith}
+use lib.ListN.{length}
+use Rattle.base.specs.Bytes.{bytes, put, put-none}
+use Rattle.superblock.specs.Node.{addr_bytes}
+use Rattle.superblock.specs.Record.{addrs_more}
+use borrow.Author.Rules.{rules}
+use Rattle.superblock.proofs.put_addrs.Given as goal
+
+abbrev pub invariant-loop-p : goal.invariant-loop-p
+invariant-loop-p l = (l.p ≤ 13) × (length l.dst ≡ length l.initial.dst) × (bytes l.dst ≡ put (bytes l.initial.dst) (l.a + 12) (4 * l.p) (λ k. addr_bytes (bytes l.addrs) (12 + k)))
+
+abbrev pub decreases-loop-p : goal.decreases-loop-p
+decreases-loop-p l = 13 - l.p
