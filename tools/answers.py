@@ -24,6 +24,19 @@ def flat(name):
 SAME = {"holds": "init", "less": "smaller", "again": "preserved"}
 
 
+def borrowed():
+    """function -> the parameters that it is lent to write, in order"""
+    found = {}
+    for f in glob.glob("crates/*/src/*.rt"):
+        text = open(f, encoding="utf-8").read()
+        for m in re.finditer(r"\bfn (\w+)(?:<[^>]*>)?\(([^)]*)\)", text):
+            found[f.split("/")[1] + "::" + m.group(1)] = re.findall(r"(\w+): &(?:'\w+ )?mut\b", m.group(2))
+    return found
+
+
+BORROWED = borrowed()
+
+
 def chain(places, at):
     """The steps from a place up to the start: (old step, new step)."""
     by = {p[0]: p for p in places}
@@ -60,6 +73,7 @@ def convert(crate, folder, names):
             imports.append(m.group(0))
     body = re.sub(r"^use [^\n{]+(?:\{[^}]*\})?[^\n]*\n", "", body, flags=re.M)
     loops = {}
+    callees = {p[2][1]: p[3] for p in data["places"] if p[3]}
     for k, (names_, variables) in enumerate(data["loops"]):
         loops[flat(names_[0])] = (names_[1], variables, data["changed"][k])
     needs = {}
@@ -116,6 +130,7 @@ def convert(crate, folder, names):
             if value.strip() == "search rules":
                 continue
             value = turn(value, steps(at), folder, new, said)
+            value = lent(value, callees)
             answers.append(f"{comment}pub {new} : goal.{new}\n{unfolding}{new} c ={value}")
             continue
         kept.append(block)
@@ -146,6 +161,15 @@ def turn(value, steps, folder, goal, said):
     value = re.sub(r"\bc((?:\.before)+)(?![\w.])", "c", value)
     # `let a = c.before.before in a.STEP`
     return value
+
+
+def lent(value, callees):
+    def named(m):
+        mine = BORROWED.get(callees.get(m.group(1), ""), [])
+        k = int(m.group(3))
+        return f"c.{m.group(1)}.{m.group(2)}.{mine[k]}" if k < len(mine) else m.group(0)
+
+    return re.sub(r"\bc\.(" + WORD + r"+)\.(new|auto)\.(\d)", named, value)
 
 
 def main():

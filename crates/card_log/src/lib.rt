@@ -87,7 +87,7 @@ pub fn commit_write(
     k: usize,
 )
     requires ready { Ready n (bytes homes.now) (bytes bufs.now) (length cache.now) (length image.old) }
-    requires n_nonzero { (0 < n) × (k < 2 * n + 2) }
+    requires due { (0 < n) × (k < 2 * n + 2) }
     ensures { bytes image.new ≡ commit_write (held n (bytes homes.now) (bytes bufs.now) (bytes cache.now)) k (bytes image.old) }
 {
     if k == n {

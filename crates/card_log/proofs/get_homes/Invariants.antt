@@ -1,0 +1,17 @@
+-- `get_homes` meets its contract: the first i homes are those of the header. Assumes nothing.
+use mathlib.Core.Path.{◌≡◌, refl}
+use Prim.Native.Nat.{ℕ, ◌≤◌, ◌<◌, ◌-◌, ◌+◌, ◌*◌}
+use native.Mathlib.Omega.{arith}
+use lib.ListN.{length, get_or, length-set}
+use Rattle.base.specs.Bytes.{bytes}
+use Rattle.base.specs.Number.{get}
+use Rattle.base.specs.First.{filled_more}
+use Rattle.card_log.specs.Journal.{header}
+use borrow.Author.Rules.{rules}
+use Rattle.card_log.proofs.get_homes.Given as goal
+
+abbrev pub invariant-loop-i : goal.invariant-loop-i
+invariant-loop-i l = (l.i ≤ l.n) × (length l.homes ≡ 30) × ((k : ℕ) → k < l.i → get_or l.homes k 0 ≡ get (bytes l.image) (header + 4 * (k + 1)) 4)
+
+abbrev pub decreases-loop-i : goal.decreases-loop-i
+decreases-loop-i l = l.n - l.i
