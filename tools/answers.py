@@ -127,10 +127,11 @@ def convert(crate, folder, names):
                 kept.append(block)
                 continue
             value = first.group(3)
-            if value.strip() == "search rules":
+            if value.strip() == "search rules" or "enum-told" in value or "enum_told" in value:
                 continue
             value = turn(value, steps(at), folder, new, said)
             value = lent(value, callees)
+            value = tidied(value, data)
             answers.append(f"{comment}pub {new} : goal.{new}\n{unfolding}{new} c ={value}")
             continue
         kept.append(block)
@@ -150,6 +151,9 @@ def turn(value, steps, folder, goal, said):
     def path(m):
         rest = m.group(2)
         first, dot, more = rest.partition(".")
+        first = first.removesuffix("_contract")
+        if first[:1].isupper():
+            first = first[0].lower() + first[1:]
         if flat(first) in steps and steps[flat(first)]:
             return "c." + steps[flat(first)] + dot + more
         if first in ("args", "requires", "ranges", "utf8"):
@@ -160,6 +164,15 @@ def turn(value, steps, folder, goal, said):
     value = re.sub(r"\bc((?:\.before)*)\.(" + WORD + r"+(?:\." + WORD + r"+)*)", path, value)
     value = re.sub(r"\bc((?:\.before)+)(?![\w.])", "c", value)
     # `let a = c.before.before in a.STEP`
+    return value
+
+
+def tidied(value, data):
+    """Arguments' names; `if !ok` says now what ok was; what the library keeps under a name of its own."""
+    for old, new in data["args"]:
+        value = re.sub(rf"\bc{re.escape(old.replace(' ', ''))}(?![\w'₀-₉\-])", "c" + new.replace(" ", ""), value)
+    value = re.sub(r"\(not-(?:false|true) _ (c\.if-not-[\w\-]+\.(?:false|true))\)", r"\1", value)
+    value = value.replace("c.well-formed", "c.well_formed")
     return value
 
 

@@ -1,0 +1,16 @@
+-- bits_ok: all bits below b pass.
+use Prim.Native.Nat.{ℕ, ◌<◌, ◌≤◌, ◌-◌}
+use native.Mathlib.Omega.{arith}
+use borrow.Author.Count.{below_more}
+use Rattle.base.specs.Bytes.{bytes}
+use Rattle.superblock.specs.Disk.{disk}
+use Rattle.base.specs.Decide.{so, not_so, no_by, yes_by}
+use Rattle.blocks.specs.Marks.{BitOk}
+use borrow.Author.Rules.{rules}
+use Rattle.blocks.proofs.bits_ok.Given as goal
+
+abbrev pub invariant-loop-b : goal.invariant-loop-b
+invariant-loop-b l = (l.b ≤ 8192) × ((q : ℕ) → q < l.b → BitOk l.g (disk l.g (bytes l.image)) q (bytes l.work q))
+
+abbrev pub decreases-loop-b : goal.decreases-loop-b
+decreases-loop-b l = 8192 - l.b

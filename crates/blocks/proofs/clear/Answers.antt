@@ -1,0 +1,19 @@
+-- clear: the first i numbers are 0.
+use mathlib.Core.Path.{◌≡◌, refl, sym}
+use native.Mathlib.Omega.{arith}
+use Prim.Native.Nat.{◌-◌, ◌≤◌}
+use lib.ListN.{length, length-set}
+use Rattle.base.specs.Bytes.{bytes, put, put-none, store_more}
+use borrow.Author.Rules.{rules}
+use Rattle.blocks.proofs.clear.Goals as goal
+
+pub loop-i-init : goal.loop-i-init
+loop-i-init c = (omega arith, refl, sym (put-none _ _ _))
+
+pub loop-i-preserved : goal.loop-i-preserved
+loop-i-preserved c = (omega arith, simp length-set (omega arith), store_more c.loop-i.work _ 0 c.loop-i.i (λ k. 0) c.loop-i.i 0 c.loop-i.invariant.2 (omega arith) (omega arith) refl)
+
+pub returns : goal.returns
+returns c =
+    let e : c.loop-i.i ≡ c.args.n = omega arith in
+    rw e at c.loop-i.invariant.2

@@ -1,0 +1,14 @@
+-- clear: the first i numbers are 0.
+use mathlib.Core.Path.{◌≡◌, refl, sym}
+use native.Mathlib.Omega.{arith}
+use Prim.Native.Nat.{◌-◌, ◌≤◌}
+use lib.ListN.{length, length-set}
+use Rattle.base.specs.Bytes.{bytes, put, put-none, store_more}
+use borrow.Author.Rules.{rules}
+use Rattle.blocks.proofs.clear.Given as goal
+
+abbrev pub invariant-loop-i : goal.invariant-loop-i
+invariant-loop-i l = (l.i ≤ l.n) × (length l.work ≡ length l.initial.work) × (bytes l.work ≡ put (bytes l.initial.work) 0 l.i (λ k. 0))
+
+abbrev pub decreases-loop-i : goal.decreases-loop-i
+decreases-loop-i l = l.n - l.i

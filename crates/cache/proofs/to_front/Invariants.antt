@@ -1,0 +1,15 @@
+-- The loop fills place after place of the order with j at the front.
+use Prim.Native.Nat.{ℕ, ◌-◌, ◌≤◌, ◌<◌}
+use native.Mathlib.Omega.{arith}
+use mathlib.Core.Path.{◌≡◌}
+use lib.ListN.{get_or, length}
+use Rattle.base.specs.First.{filled_more}
+use Rattle.bio.specs.Order.{front, front_is}
+use borrow.Author.Rules.{rules}
+use Rattle.cache.proofs.to_front.Given as goal
+
+abbrev pub invariant-loop-i : goal.invariant-loop-i
+invariant-loop-i l = (l.i ≤ 30) × (length l.out ≡ 30) × ((k : ℕ) → k < l.i → get_or l.out k 0 ≡ get_or (front l.j l.order) k 0)
+
+abbrev pub decreases-loop-i : goal.decreases-loop-i
+decreases-loop-i l = 30 - l.i

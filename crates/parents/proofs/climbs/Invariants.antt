@@ -1,0 +1,17 @@
+-- climbs: x is what n steps up give; the pigeonhole ends the walk (`climb_end`).
+use Prim.Native.Nat.{◌≤◌, ◌-◌}
+use native.Mathlib.Omega.{arith}
+use mathlib.Core.Path.{◌≡◌, refl, ap, sym, ◌∙◌}
+use Rattle.base.specs.Bytes.{bytes}
+use Rattle.base.specs.Decide.{so, eq_decides}
+use Rattle.superblock.specs.Disk.{disk}
+use Rattle.rules.specs.Tree.{tree, up, follow}
+use Rattle.parents.specs.Climb.{up_more, climb_end}
+use borrow.Author.Rules.{rules}
+use Rattle.parents.proofs.climbs.Given as goal
+
+abbrev pub invariant-loop-n : goal.invariant-loop-n
+invariant-loop-n l = (l.n ≤ l.g.ninodes) × (l.x ≡ follow (up (tree (disk l.g (bytes l.image)))) l.n l.i)
+
+abbrev pub decreases-loop-n : goal.decreases-loop-n
+decreases-loop-n l = l.g.ninodes - l.n

@@ -1,0 +1,21 @@
+-- `recording::count_news` meets its contract: the count of those passed. Assumes nothing.
+use native.Mathlib.Omega.{arith}
+use mathlib.Core.Logic.{⊎_elim}
+use mathlib.Core.Path.{◌≡◌, sym, ◌∙◌}
+use Prim.Native.Nat.{◌-◌, ◌≤◌}
+use borrow.Author.Tests.{not-true, not-false}
+use Rattle.recording.specs.Record.{Counted}
+use Rattle.recording.specs.Steps.{counted_none, counted_old, counted_new}
+use borrow.Author.Rules.{rules}
+use Rattle.recording.proofs.count_news.Goals as goal
+
+pub loop-i-init : goal.loop-i-init
+loop-i-init c = (search rules, counted_none _ _ _)
+
+pub loop-i-preserved : goal.loop-i-preserved
+loop-i-preserved c = (search rules, ⊎_elim (λ w. rw w.1 (counted_new _ _ _ _ _ c.loop-i.invariant.1 (sym c.is_recorded.ensures ∙ not-true _ w.0.taken))) (λ w. rw w.1 (counted_old _ _ _ _ _ c.loop-i.invariant.1 (sym c.is_recorded.ensures ∙ not-false _ w.0.left))) c.if-not-is_recorded.branch)
+
+pub returns : goal.returns
+returns c =
+    let e : c.loop-i.i ≡ c.args.n = omega arith in
+    rw e at c.loop-i.invariant.1

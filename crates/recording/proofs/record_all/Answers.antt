@@ -1,0 +1,76 @@
+-- `recording::record_all` meets its contract: the arrays are those of `record_all` after each turn. Assumes nothing.
+use native.Mathlib.Omega.{arith}
+use mathlib.Core.Logic.{⊎_elim}
+use mathlib.Core.Path.{◌≡◌, refl, sym, ap, ◌∙◌}
+use Prim.Native.Nat.{◌-◌, ◌≤◌}
+use borrow.Author.Tests.{not-true, not-false}
+use lib.ListN.{length}
+use Rattle.base.specs.Bytes.{bytes}
+use Rattle.recording.specs.Steps.{At, at_none, at_ready, at_old, at_next, at_count, at_few, at_end}
+use borrow.Author.Rules.{rules}
+use Rattle.recording.proofs.record_all.Goals as goal
+
+pub loop-i-init : goal.loop-i-init
+loop-i-init c = (search rules, at_none _ _ _ _ c.requires.2)
+
+pub is_recorded-requires : goal.is_recorded-requires
+is_recorded-requires c = omega (arith, at_count _ _ _ _ _ _ _ _ _ _ _ c.requires.0 c.loop-i.invariant.1 c.loop-i-test.true)
+
+pub overflow_mul-k : goal.overflow_mul-k
+overflow_mul-k c =
+    let r = at_ready _ _ _ _ _ _ _ _ _ _ _ c.requires.0 c.loop-i.invariant.1 c.loop-i-test.true _ (sym c.is_recorded.ensures ∙ not-true _ c.if-not-is_recorded.true) c.choose-k.ensures in
+    omega (arith, r.below)
+
+pub overflow_cast-b : goal.overflow_cast-b
+overflow_cast-b c =
+    let r = at_ready _ _ _ _ _ _ _ _ _ _ _ c.requires.0 c.loop-i.invariant.1 c.loop-i-test.true _ (sym c.is_recorded.ensures ∙ not-true _ c.if-not-is_recorded.true) c.choose-k.ensures in
+    omega (arith, r.small)
+
+pub overflow_mul-b : goal.overflow_mul-b
+overflow_mul-b c =
+    let r = at_ready _ _ _ _ _ _ _ _ _ _ _ c.requires.0 c.loop-i.invariant.1 c.loop-i-test.true _ (sym c.is_recorded.ensures ∙ not-true _ c.if-not-is_recorded.true) c.choose-k.ensures in
+    omega (arith, r.small)
+
+pub copy_part-requires : goal.copy_part-requires
+copy_part-requires c =
+    let r = at_ready _ _ _ _ _ _ _ _ _ _ _ c.requires.0 c.loop-i.invariant.1 c.loop-i-test.true _ (sym c.is_recorded.ensures ∙ not-true _ c.if-not-is_recorded.true) c.choose-k.ensures in
+    (omega (arith, r.below, c.loop-i.invariant.1.long), omega (arith, r.inside))
+
+pub store-requires : goal.store-requires
+store-requires c =
+    let r = at_ready _ _ _ _ _ _ _ _ _ _ _ c.requires.0 c.loop-i.invariant.1 c.loop-i-test.true _ (sym c.is_recorded.ensures ∙ not-true _ c.if-not-is_recorded.true) c.choose-k.ensures in
+    r.below
+
+pub one_more-requires : goal.one_more-requires
+one_more-requires c =
+    let r = at_ready _ _ _ _ _ _ _ _ _ _ _ c.requires.0 c.loop-i.invariant.1 c.loop-i-test.true _ (sym c.is_recorded.ensures ∙ not-true _ c.if-not-is_recorded.true) c.choose-k.ensures in
+    (r.below, omega (arith, r.free))
+
+pub store-requires-then-not-is_recorded : goal.store-requires-then-not-is_recorded
+store-requires-then-not-is_recorded c =
+    let r = at_ready _ _ _ _ _ _ _ _ _ _ _ c.requires.0 c.loop-i.invariant.1 c.loop-i-test.true _ (sym c.is_recorded.ensures ∙ not-true _ c.if-not-is_recorded.true) c.choose-k.ensures in
+    r.few
+
+pub overflow_add-count : goal.overflow_add-count
+overflow_add-count c = omega (arith, at_count _ _ _ _ _ _ _ _ _ _ _ c.requires.0 c.loop-i.invariant.1 c.loop-i-test.true)
+
+pub loop-i-preserved : goal.loop-i-preserved
+loop-i-preserved c = (
+  search rules,
+  ⊎_elim
+      (λ w. at_next _ _ _ _ _ _ _ _ _ _ _ c.requires.0 c.loop-i.invariant.1 c.loop-i-test.true _ _ _ _ _ _ (sym c.is_recorded.ensures ∙ not-true _ w.0.taken) w.4.ensures
+      (ap bytes w.15 ∙ w.6.ensures) (ap length w.15 ∙ w.6.kept.0 ∙ c.loop-i.invariant.1.long) (w.16 ∙ w.10.ensures) (w.17 ∙ w.12.ensures) (w.18 ∙ w.14.ensures) w.19)
+      (λ w. rw (w.1, w.2, w.3, w.4, w.5) (at_old _ _ _ _ _ _ _ _ _ _ _ c.requires.0 c.loop-i.invariant.1 c.loop-i-test.true (sym c.is_recorded.ensures ∙ not-false _ w.0.left)))
+      c.if-not-is_recorded.branch,
+)
+
+pub overflow_cast-result : goal.overflow_cast-result
+overflow_cast-result c =
+    let e : c.loop-i.i ≡ c.args.n = omega arith in
+    omega (arith, at_few _ _ _ _ _ _ _ _ _ _ c.requires.0 (rw e at c.loop-i.invariant.1))
+
+pub returns : goal.returns
+returns c =
+    let e : c.loop-i.i ≡ c.args.n = omega arith in
+    let a = rw e at c.loop-i.invariant.1 in
+    record { state = at_end _ _ _ _ _ _ _ _ _ _ c.requires.0 a _ refl; memory = a.memory }

@@ -1,0 +1,17 @@
+-- `state::slot_of` meets its contract: a search, by `first`. Assumes nothing.
+use borrow.Author.Count.{below_more}
+use mathlib.Core.Logic.{⊎_elim}
+use mathlib.Core.Path.{◌≡◌, sym, ◌∙◌}
+use mathlib.Core.Bool.{false}
+use Prim.Native.Nat.{ℕ, ◌-◌, ◌≤◌, ◌<◌}
+use native.Mathlib.Omega.{arith}
+use Rattle.base.specs.First.{first-at, first-none}
+use Rattle.state.specs.Slots.{uses, slot_of, slot-found, slot_free, slot-other}
+use borrow.Author.Rules.{rules}
+use Rattle.state.proofs.slot_of.Given as goal
+
+abbrev pub invariant-loop-k : goal.invariant-loop-k
+invariant-loop-k l = (l.k ≤ l.n) × ((j : ℕ) → j < l.k → uses l.inums l.refs l.i j ≡ false)
+
+abbrev pub decreases-loop-k : goal.decreases-loop-k
+decreases-loop-k l = l.n - l.k
