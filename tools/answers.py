@@ -47,10 +47,17 @@ def chain(places, at):
         at = p[1]
 
 
-def sections(text):
-    """The file's declarations: (lines of comment above, name, signature, unfolding line or None, body)."""
-    blocks = re.split(r"\n\s*\n", text.strip("\n"))
-    return blocks
+def arms(places, at):
+    """What an arm of a match bound, by its older name: the arm's step now."""
+    by = {p[0]: p for p in places}
+    found = {}
+    while at in by:
+        p = by[at]
+        above = by.get(p[1])
+        if p[2][0] and p[3] is None and above and above[2][0].startswith("match"):
+            found.setdefault(flat(p[2][0]), above[2][1])
+        at = p[1]
+    return found
 
 
 def convert(crate, folder, names):
@@ -127,9 +134,9 @@ def convert(crate, folder, names):
                 kept.append(block)
                 continue
             value = first.group(3)
-            if value.strip() == "search rules" or "enum-told" in value or "enum_told" in value:
+            if value.strip() == "search rules" :
                 continue
-            value = turn(value, steps(at), folder, new, said)
+            value = turn(value, steps(at), arms(data["places"], at), folder, new, said)
             value = lent(value, callees)
             value = tidied(value, data)
             answers.append(f"{comment}pub {new} : goal.{new}\n{unfolding}{new} c ={value}")
@@ -147,13 +154,15 @@ def convert(crate, folder, names):
     return "\n".join(said)
 
 
-def turn(value, steps, folder, goal, said):
+def turn(value, steps, arms, folder, goal, said):
     def path(m):
         rest = m.group(2)
         first, dot, more = rest.partition(".")
         first = first.removesuffix("_contract")
         if first[:1].isupper():
             first = first[0].lower() + first[1:]
+        if flat(first) in arms and re.match(r"given\.1\b", more):
+            return f"c.{arms[flat(first)]}.is" + more[len("given.1"):]
         if flat(first) in steps and steps[flat(first)]:
             return "c." + steps[flat(first)] + dot + more
         if first in ("args", "requires", "ranges", "utf8"):

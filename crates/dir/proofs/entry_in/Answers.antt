@@ -3,7 +3,6 @@ use mathlib.Core.Path.{◌≡◌, sym, ◌∙◌}
 use native.Mathlib.Omega.{arith}
 use Prim.Native.Nat.{ℕ, ◌-◌, ◌*◌, ◌<◌, ◌≤◌}
 use mathlib.Core.Bool.{false}
-use mathlib.Core.Logic.{⊎_elim}
 use borrow.Author.Count.{below_more}
 use Rattle.base.specs.First.{first-at, first-none}
 use Rattle.base.specs.Bytes.{bytes}
@@ -11,6 +10,7 @@ use Rattle.path.specs.Names.{name_of}
 use Rattle.dir.specs.Entries.{entry_is, entry_free, entry-live}
 use borrow.Author.Rules.{rules}
 use Rattle.dir.proofs.entry_in.Goals as goal
+use Rattle.dir.proofs.entry_in.Goals.{then-get_u16-ne0+else-same_name, else-get_u16-ne0}
 
 pub loop-k-init : goal.loop-k-init
 loop-k-init c = (search rules, λ j h. absurd (omega arith))
@@ -21,14 +21,11 @@ returns-then-same_name c =
     (entry-live _ _ _ c.get_u16.result c.get_u16.ensures c.if-get_u16-ne0.true c.same_name.result c.same_name.ensures ∙ c.if-same_name.true))
 
 pub loop-k-preserved : goal.loop-k-preserved
-loop-k-preserved c = (
-  search rules,
-  below_more _ _ c.loop-k.invariant.1
-      (⊎_elim
-      (λ w. entry-live _ _ _ c.get_u16.result c.get_u16.ensures w.0.taken w.1.result w.1.ensures ∙ w.2.left)
-      (λ w. entry_free _ _ _ c.get_u16.result c.get_u16.ensures w.left)
-      c.if-get_u16-ne0.branch),
-)
+loop-k-preserved c =
+    (search rules, below_more _ _ c.loop-k.invariant.1 (elim c.if-get_u16-ne0.branch [
+      | then-get_u16-ne0+else-same_name w ↦ entry-live _ _ _ c.get_u16.result c.get_u16.ensures w.if-get_u16-ne0.true w.same_name.result w.same_name.ensures ∙ w.if-same_name.false
+      | else-get_u16-ne0 w ↦ entry_free _ _ _ c.get_u16.result c.get_u16.ensures w.if-get_u16-ne0.false
+    ]))
 
 pub returns : goal.returns
 returns c =

@@ -1,6 +1,5 @@
 -- `recording::count_news` meets its contract: the count of those passed. Assumes nothing.
 use native.Mathlib.Omega.{arith}
-use mathlib.Core.Logic.{⊎_elim}
 use mathlib.Core.Path.{◌≡◌, sym, ◌∙◌}
 use Prim.Native.Nat.{◌-◌, ◌≤◌}
 use borrow.Author.Tests.{not-true, not-false}
@@ -8,12 +7,17 @@ use Rattle.recording.specs.Record.{Counted}
 use Rattle.recording.specs.Steps.{counted_none, counted_old, counted_new}
 use borrow.Author.Rules.{rules}
 use Rattle.recording.proofs.count_news.Goals as goal
+use Rattle.recording.proofs.count_news.Goals.{then-not-is_recorded, else-not-is_recorded}
 
 pub loop-i-init : goal.loop-i-init
 loop-i-init c = (search rules, counted_none _ _ _)
 
 pub loop-i-preserved : goal.loop-i-preserved
-loop-i-preserved c = (search rules, ⊎_elim (λ w. rw w.1 (counted_new _ _ _ _ _ c.loop-i.invariant.1 (sym c.is_recorded.ensures ∙ not-true _ w.0.taken))) (λ w. rw w.1 (counted_old _ _ _ _ _ c.loop-i.invariant.1 (sym c.is_recorded.ensures ∙ not-false _ w.0.left))) c.if-not-is_recorded.branch)
+loop-i-preserved c =
+    (search rules, elim c.if-not-is_recorded.branch [
+      | then-not-is_recorded w ↦ rw w.news-is (counted_new _ _ _ _ _ c.loop-i.invariant.1 (sym c.is_recorded.ensures ∙ w.if-not-is_recorded.true))
+      | else-not-is_recorded w ↦ rw w.news-is (counted_old _ _ _ _ _ c.loop-i.invariant.1 (sym c.is_recorded.ensures ∙ w.if-not-is_recorded.false))
+    ])
 
 pub returns : goal.returns
 returns c =

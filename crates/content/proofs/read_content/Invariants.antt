@@ -1,0 +1,17 @@
+-- `content::read_content` meets its contract. The loop's invariant: the first d bytes are in the buffer; a turn is `more`. Assumes nothing.
+use native.Mathlib.Omega.{arith}
+use mathlib.Core.Path.{◌≡◌, refl, sym}
+use Prim.Native.Nat.{◌-◌, ◌+◌, ◌≤◌}
+use lib.ListN.{length}
+use borrow.Author.Rules.{rules}
+use Rattle.base.specs.Bytes.{bytes, put, put-none}
+use Rattle.superblock.specs.Node.{node}
+use Rattle.bio.specs.Seen.{seen}
+use Rattle.content.specs.Parts.{content_at, more}
+use Rattle.content.proofs.read_content.Given as goal
+
+abbrev pub invariant-loop-d : goal.invariant-loop-d
+invariant-loop-d l = (l.d ≤ l.n) × (length l.buffer ≡ length l.initial.buffer) × (bytes l.buffer ≡ put (bytes l.initial.buffer) 0 l.d (λ k. content_at (seen l.blocks l.counts (bytes l.cache) (bytes l.image)) (node l.f) (l.offset + k)))
+
+abbrev pub decreases-loop-d : goal.decreases-loop-d
+decreases-loop-d l = l.n - l.d

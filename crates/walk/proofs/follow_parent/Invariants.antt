@@ -1,0 +1,16 @@
+-- follow_parent: the walk from where it stands is the walk asked for; Parents has a law for each turn. Each step takes a byte of the path.
+use mathlib.Core.Path.{◌≡◌, refl, sym, ◌∙◌}
+use native.Mathlib.Omega.{arith}
+use Prim.Native.Nat.{◌-◌, ◌≤◌}
+use lib.ListN.{length, drop, length-take, length-drop}
+use Rattle.inode.specs.Lent.{disk_seen}
+use Rattle.walk.specs.Step.{From, step_led}
+use Rattle.walk.specs.Parents.{parent_of, parent_from, in_path, parent_none, parent_last, parent_to, parent_stay, parent_no}
+use borrow.Author.Rules.{rules}
+use Rattle.walk.proofs.follow_parent.Given as goal
+
+abbrev pub invariant-loop-start : goal.invariant-loop-start
+invariant-loop-start l = (l.at ≤ length l.path) × From l.s l.i × (parent_from l.s (disk_seen l.s l.blocks l.counts l.cache l.image) l.i l.at (drop l.at l.path) ≡ parent_of l.s (disk_seen l.s l.blocks l.counts l.cache l.image) l.from l.path)
+
+abbrev pub decreases-loop-start : goal.decreases-loop-start
+decreases-loop-start l = length l.path - l.at
