@@ -1,5 +1,6 @@
 // Whether an inode's held block numbers are distinct: what write and truncate need of it beside fitness. One pass, with a mark for each block.
 #![tactic(auto)]
+
 ghost use Rattle.std.specs.Prelude.{◌≡◌, ℕ, ◌+◌, ◌*◌, ◌<◌, ◌≤◌, min};
 ghost use Rattle.base.specs.Bytes.{bytes};
 ghost use Rattle.base.specs.Decide.{Decides};

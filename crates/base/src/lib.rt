@@ -3,6 +3,7 @@
 // Slices stand for the card and the cache. A read is total (0 past the end), so that a caller owes no range; a writer asks that what it writes
 // lies in its slice. Numbers are little-endian, as on the card. misc.rs of the Rust has its counterparts here.
 #![tactic(auto)]
+
 ghost use Rattle.std.specs.Prelude.{◌≡◌, ℕ, ◌+◌, ◌*◌, ◌<◌, ◌≤◌, min, length, get_or, eqb};
 ghost use Rattle.base.specs.First.{first};
 ghost use Rattle.base.specs.Bytes.{bytes, put};

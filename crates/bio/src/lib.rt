@@ -1,5 +1,6 @@
 // The buffer table (bio.rs): 30 buffers of 1,024 bytes in lent memory of 30,720. The Rust's linked raw pointers are numbers in a table by value.
 #![tactic(auto)]
+
 ghost use Rattle.std.specs.Prelude.{◌≡◌, ℕ, ◌+◌, ◌*◌, ◌<◌, ◌≤◌, length, get_or};
 ghost use Rattle.base.specs.Bytes.{bytes};
 ghost use Rattle.base.specs.Decide.{Decides};

@@ -1,6 +1,7 @@
 // The rules S3 and S4: inodes, and the blocks that they hold. S4 makes one pass over the inodes and their addresses, with a mark for each block
 // in the lent numbers.
 #![tactic(auto)]
+
 ghost use Rattle.std.specs.Prelude.{◌≡◌, true, ℕ, ◌+◌, ◌*◌, ◌<◌, ◌≤◌, length};
 ghost use Rattle.base.specs.Bytes.{bytes, put};
 ghost use Rattle.base.specs.Decide.{Decides};

@@ -4,6 +4,7 @@
 // 255 where the Rust panics; then the order after the step. Byte i of the image is i / 1024, so that a buffer's bytes tell its block: after a get
 // they are compared too.
 #![tactic(auto)]
+
 ghost use Rattle.std.specs.Prelude.{◌≡◌, ℕ, ◌+◌, ◌*◌, ◌<◌, ◌≤◌, length};
 
 use bio::Table;

@@ -3,11 +3,16 @@
 // The language is that of the comparison programs (oracle/README.md), as far as these calls go: mkfs, poke, mount, open, cwd, close, read,
 // stat and slots. The cards have 64 blocks at most. A refusal is `no N` with document 01's number.
 #![tactic(auto)]
+
 ghost use Rattle.std.specs.Prelude.{◌≤◌, ◌<◌, ◌≡◌, length};
 
-use libc::{STDIN_FILENO, STDOUT_FILENO};
 use state::{Handle, Volume};
 use volume::{Closing, Opening, Reading, Stating};
+
+// Standard input's and output's numbers.
+const STDIN_FILENO: i32 = 0;
+
+const STDOUT_FILENO: i32 = 1;
 
 // The volume, and the handles given since mount; `from` is the number of the one that a relative path starts at.
 #[derive(Clone, Copy)]

@@ -1,6 +1,7 @@
 // The program of document 01's case 15: reads an image of at most 64 blocks from standard input and writes its numbers, its used inodes and the
 // checker's verdict. What it writes is tested (tests/card); the verdict is the checker's, which is proved.
 #![tactic(auto)]
+
 ghost use Rattle.std.specs.Prelude.{◌≡◌, ℕ, ◌≤◌, ◌<◌, length};
 
 use rules::{Rule, Verdict};
@@ -118,7 +119,7 @@ fn main() {
     let mut buffer = io::large_buffer();
     let n = io::read_full(0, &mut buffer);
     let mut more = [0u8; 1];
-    let over = libc::read(0, &mut more);
+    let over = io::read_full(0, &mut more);
     if over > 0 {
         // longer than 64 blocks
         say_verdict(1);

@@ -3,6 +3,7 @@
 // The log starts at block 2 on every good card: block 2 is the header (a length, then the homes), logged block i is block 3 + i. Block number
 // k's part of the lent image is passed mutably to the block copier. What a cut leaves is a theorem: specs/PulledCard.antt.
 #![tactic(auto)]
+
 ghost use Rattle.std.specs.Prelude.{◌≡◌, ℕ, ◌+◌, ◌-◌, ◌*◌, ◌≤◌, ◌<◌, min, length, get_or};
 ghost use Rattle.base.specs.Bytes.{bytes, block, put_block};
 ghost use Rattle.base.specs.Number.{get as num_at};

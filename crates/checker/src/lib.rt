@@ -1,6 +1,7 @@
 // The image checker: the first of the seven rules that an image breaks, each judged only if those before hold. The image is only read; of the lent
 // numbers 65,536 are used, and left 0.
 #![tactic(auto)]
+
 ghost use Rattle.std.specs.Prelude.{◌≡◌, ℕ, ◌<◌, ◌≤◌, length};
 ghost use Rattle.rules.specs.Verdicts.{Says};
 ghost use Rattle.checker.specs.Judge.{Judged, Lower};

@@ -1,5 +1,6 @@
 // The content of an inode copied out (inode.rs, read): block parts, each copied whole to where it belongs in the buffer.
 #![tactic(auto)]
+
 ghost use Rattle.std.specs.Prelude.{◌≡◌, ℕ, ◌+◌, ◌-◌, ◌%◌, ◌<◌, ◌≤◌, min, length};
 ghost use Rattle.base.specs.Bytes.{bytes, put};
 ghost use Rattle.superblock.specs.Node.{node};

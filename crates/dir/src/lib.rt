@@ -2,6 +2,7 @@
 //
 // Each block of the directory is looked at once, as a slice. The name is a part of the path, compared where it stands.
 #![tactic(auto)]
+
 ghost use Rattle.std.specs.Prelude.{◌≡◌, ℕ, ◌+◌, ◌*◌, ◌<◌, ◌≤◌, length, get_or};
 ghost use Rattle.base.specs.First.{first};
 ghost use Rattle.base.specs.Bytes.{bytes};

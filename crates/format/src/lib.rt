@@ -2,6 +2,7 @@
 //
 // Numbers come from outside and are tested before anything is written; the image is then zeroed, and each part is written once.
 #![tactic(auto)]
+
 ghost use Rattle.std.specs.Prelude.{◌≡◌, ℕ, ◌+◌, ◌-◌, ◌*◌, ◌/◌, ◌^◌, ◌<◌, ◌≤◌, length, get_or};
 ghost use Rattle.base.specs.Bytes.{bytes, put, put_block};
 ghost use Rattle.base.specs.Decide.{Decides};

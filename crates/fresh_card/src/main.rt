@@ -1,10 +1,13 @@
 // Formats case 1's card, 64 blocks with 16 inodes and 30 log blocks, over memory that is not zero, and prints the superblock's numbers and the
 // first five bytes of the bitmap as they then stand in the image.
 #![tactic(auto)]
+
 ghost use Rattle.std.specs.Prelude.{◌≡◌, length};
 
 use format::Answer;
-use libc::STDOUT_FILENO;
+
+// Standard output's number.
+const STDOUT_FILENO: i32 = 1;
 
 // Memory for 64 blocks, as something else left it. The `ensures` gives only the length, which lending the array as a slice needs.
 fn used_memory() -> [u8; 65536]

@@ -3,6 +3,7 @@
 // Every function reads through the two arrays of a buffer table, the card and the cache, and changes nothing. The bitmap's block and the
 // indirect block are found once for a test and handed on as slices.
 #![tactic(auto)]
+
 ghost use Rattle.std.specs.Prelude.{◌≡◌, ℕ, ◌+◌, ◌*◌, ◌<◌, ◌≤◌, length, get_or};
 ghost use Rattle.base.specs.Bytes.{bytes};
 ghost use Rattle.base.specs.Number.{get as num_at};

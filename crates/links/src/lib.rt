@@ -1,5 +1,6 @@
 // How often each inode is named, in one pass over the directories' entries with a count for each inode in the lent numbers; and the rule S7.
 #![tactic(auto)]
+
 ghost use Rattle.std.specs.Prelude.{◌≡◌, ℕ, ◌+◌, ◌*◌, ◌<◌, ◌≤◌, length};
 ghost use Rattle.base.specs.Bytes.{bytes};
 ghost use Rattle.base.specs.Decide.{Decides};

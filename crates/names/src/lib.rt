@@ -1,6 +1,7 @@
 // The rule S5: the entries of each directory. An entry is found once and then read by its address; "no name twice" compares the pairs of one
 // directory, the first eight bytes as two numbers.
 #![tactic(auto)]
+
 ghost use Rattle.std.specs.Prelude.{◌≡◌, ◌≢◌, ℕ, ◌+◌, ◌*◌, ◌<◌, ◌≤◌};
 ghost use Rattle.base.specs.Bytes.{bytes};
 ghost use Rattle.base.specs.Decide.{Decides};

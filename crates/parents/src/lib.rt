@@ -1,6 +1,7 @@
 // The rule S6: the tree of directories. With the counts of `links`, one more pass over the entries says that each directory is named in the
 // directory that its ".." names; then ".." is followed from each, at most ninodes steps.
 #![tactic(auto)]
+
 ghost use Rattle.std.specs.Prelude.{◌≡◌, ℕ, ◌+◌, ◌*◌, ◌<◌, ◌≤◌, length};
 ghost use Rattle.base.specs.Bytes.{bytes};
 ghost use Rattle.base.specs.Decide.{Decides};

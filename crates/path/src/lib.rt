@@ -3,6 +3,7 @@
 // A path is a lent slice. The walk hands it on from the current place, `&path[at..]`, and a component is a part of it, `&path[start..end]`.
 // Past its end a slice reads as 0, so that a NUL and the slice's end are one case, and a short component is padded without a copy.
 #![tactic(auto)]
+
 ghost use Rattle.std.specs.Prelude.{◌≡◌, ℕ, ◌+◌, ◌<◌, ◌≤◌, length};
 ghost use Rattle.base.specs.Bytes.{bytes};
 ghost use Rattle.base.specs.Decide.{Decides};

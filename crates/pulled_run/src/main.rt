@@ -4,12 +4,15 @@
 // A line for each k: what `end` answers (0 done, 19 cut) and the writes that it reports, then a letter for each pair of cuts, in groups by the
 // first recovery's: o where every home is as before, n where every home is new, x for anything else.
 #![tactic(auto)]
+
 ghost use Rattle.std.specs.Prelude.{◌≡◌, length, ◌<◌};
 
 use bio::Table;
-use libc::STDOUT_FILENO;
 use state::Volume;
 use transactions::Answer;
+
+// Standard output's number.
+const STDOUT_FILENO: i32 = 1;
 
 // The lengths are what lending an array as a slice needs.
 fn card() -> [u8; 65536]

@@ -1,6 +1,7 @@
 // What an image says: the parts of its Disk, read from its bytes. Every read is total; the numbers come as usize with their bounds, so that
 // addresses are made of them without a cast.
 #![tactic(auto)]
+
 ghost use Rattle.std.specs.Prelude.{◌≡◌, ℕ, ◌+◌, ◌*◌, ◌<◌, ◌≤◌, length};
 ghost use Rattle.base.specs.Bytes.{bytes};
 ghost use Rattle.base.specs.Number.{get as num_at};

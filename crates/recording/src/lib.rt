@@ -1,5 +1,6 @@
 // Recording blocks for the next commit (log_write of log.rs), and changing recorded ones in their buffers.
 #![tactic(auto)]
+
 ghost use Rattle.std.specs.Prelude.{◌≡◌, ℕ, ◌+◌, ◌*◌, ◌<◌, ◌≤◌, length, get_or, set};
 ghost use Rattle.base.specs.Bytes.{bytes, put};
 ghost use Rattle.base.specs.Number.{digit};

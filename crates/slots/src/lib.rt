@@ -2,6 +2,7 @@
 //
 // The two arrays of the slots are lent; nothing here takes a Volume.
 #![tactic(auto)]
+
 ghost use Rattle.std.specs.Prelude.{◌≡◌, ℕ, ◌<◌, get_or, set};
 ghost use Rattle.base.specs.Decide.{Decides};
 ghost use Rattle.slots.specs.Handles.{GoodHandle, Room, free_slot, slot_for};

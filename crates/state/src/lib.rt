@@ -1,6 +1,7 @@
 // The state of a volume (log.rs and inode.rs keep it in statics), by value: the superblock's numbers, the buffer table, the recorded homes, how
 // many operations are open, the handle slots. `whole` runs at the head of every call, so it marks buffers and does not compare pairs.
 #![tactic(auto)]
+
 ghost use Rattle.std.specs.Prelude.{◌≡◌, ℕ, ◌+◌, ◌*◌, ◌<◌, ◌≤◌, length, get_or};
 ghost use Rattle.base.specs.Bytes.{bytes};
 ghost use Rattle.base.specs.Decide.{Decides};

@@ -2,6 +2,7 @@
 //
 // Every function is defined on slices of every length: reads past the end give 0, and a writer asks that its bytes lie in the slice.
 #![tactic(auto)]
+
 ghost use Rattle.std.specs.Prelude.{◌≡◌, ℕ, ◌+◌, ◌*◌, ◌<◌, ◌≤◌, length, get_or};
 ghost use Rattle.base.specs.Bytes.{bytes, put};
 ghost use Rattle.base.specs.Number.{get as num_at};

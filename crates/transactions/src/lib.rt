@@ -3,6 +3,7 @@
 // Mount and end take the number of block writes that still reach the card, and answer how many did. What is on a card that was pulled is a
 // theorem about these calls: specs/PulledCalls.antt.
 #![tactic(auto)]
+
 ghost use Rattle.std.specs.Prelude.{◌≡◌, ℕ, ◌+◌, ◌*◌, ◌≤◌, ◌<◌, length, get_or};
 ghost use Rattle.base.specs.Bytes.{bytes};
 ghost use Rattle.superblock.specs.Geometry.{Good, super_of};

@@ -3,6 +3,7 @@
 // Each takes the volume by value and gives it back, with its answer beside it. None asks anything of its caller: what is wrong is answered by
 // one of document 01's numbers, and the volume comes back as it was.
 #![tactic(auto)]
+
 ghost use Rattle.std.specs.Prelude.{◌≡◌, ℕ, ◌<◌, ◌≤◌, length, get_or};
 ghost use Rattle.base.specs.Bytes.{bytes};
 ghost use Rattle.volume.specs.Signed.{IsSigned};

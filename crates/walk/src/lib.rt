@@ -3,6 +3,7 @@
 // The path is handed on from the current place, `&path[at..]`. At each component the inode that the walk stands on is fetched and must be fit (5),
 // a directory (6), and have the name (7); the number found must be an inode's (5); the inode at which it ends must be fit (5).
 #![tactic(auto)]
+
 ghost use Rattle.std.specs.Prelude.{◌≡◌, ℕ, ◌+◌, ◌*◌, ◌<◌, ◌≤◌};
 ghost use Rattle.inode.specs.Lent.{Lent, disk_seen};
 ghost use Rattle.walk.specs.Step.{step_of, From};

@@ -10,11 +10,13 @@ pub loop-j-init : goal.loop-j-init
 loop-j-init c = (search rules, missed_none _ _ _)
 
 pub loop-j-preserved : goal.loop-j-preserved
-loop-j-preserved c =
-    (search rules, elim c.if-blocks-j.branch [
-      | then-blocks-j w ↦ rw w.any-is (missed_hit _ _ _)
-      | else-blocks-j w ↦ rw w.any-is (missed_more _ _ _ _ c.loop-j.invariant.1 w.if-blocks-j.false)
-    ])
+loop-j-preserved c = (
+  search rules,
+  elim c.if-blocks-j.branch [
+    | then-blocks-j w ↦ rw w.any-is (missed_hit _ _ _)
+    | else-blocks-j w ↦ rw w.any-is (missed_more _ _ _ _ c.loop-j.invariant.1 w.if-blocks-j.false)
+  ],
+)
 
 pub returns-then-any-eq0 : goal.returns-then-any-eq0
 returns-then-any-eq0 c = below_all _ _ _ _ c.loop-j.invariant.1 (omega arith) c.if-any-eq0.true

@@ -21,11 +21,13 @@ returns-then-counts-j-gt0 c =
 
 pub loop-j-preserved : goal.loop-j-preserved
 loop-j-preserved c =
-    let l = c.loop-j in
-    (search rules, below_more _ _ l.invariant.1 (elim c.if-blocks-j.branch [
-      | then-blocks-j+else-counts-j-gt0 w ↦ pinned_clean _ _ _ l.j (omega (arith, w.if-counts-j-gt0.false))
-      | else-blocks-j w ↦ pinned-other _ _ _ l.j w.if-blocks-j.false
-    ]))
+    let l = c.loop-j in (
+      search rules,
+      below_more _ _ l.invariant.1 (elim c.if-blocks-j.branch [
+        | then-blocks-j+else-counts-j-gt0 w ↦ pinned_clean _ _ _ l.j (omega (arith, w.if-counts-j-gt0.false))
+        | else-blocks-j w ↦ pinned-other _ _ _ l.j w.if-blocks-j.false
+      ]),
+    )
 
 pub returns : goal.returns
 unfolding buffer_of

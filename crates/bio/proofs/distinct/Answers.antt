@@ -16,11 +16,13 @@ pub returns-then-k-i : goal.returns-then-k-i
 returns-then-k-i c = not_so (distinct_not _ _ _ _ c.loop-i-test.true c.if-x-limit.true (among-found _ _ _ _ c.find-k.ensures c.if-k-i.true))
 
 pub loop-i-preserved : goal.loop-i-preserved
-loop-i-preserved c =
-    (search rules, elim c.if-x-limit.branch [
-      | then-x-limit+else-k-i w ↦ distinct_new _ _ _ c.loop-i.invariant.1 (among_missed _ _ _ _ w.find-k.ensures w.if-k-i.false)
-      | else-x-limit w ↦ distinct_high _ _ _ c.loop-i.invariant.1 w.if-x-limit.false
-    ])
+loop-i-preserved c = (
+  search rules,
+  elim c.if-x-limit.branch [
+    | then-x-limit+else-k-i w ↦ distinct_new _ _ _ c.loop-i.invariant.1 (among_missed _ _ _ _ w.find-k.ensures w.if-k-i.false)
+    | else-x-limit w ↦ distinct_high _ _ _ c.loop-i.invariant.1 w.if-x-limit.false
+  ],
+)
 
 pub returns : goal.returns
 returns c =

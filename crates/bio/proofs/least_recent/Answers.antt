@@ -17,11 +17,13 @@ returns-then-counts-j-eq0 c = let e = c.place-j.ensures in e ∙ least_at _ _ _ 
 
 pub loop-k-preserved : goal.loop-k-preserved
 loop-k-preserved c =
-    let e = c.place-j.ensures in
-    (search rules, below_more _ _ c.loop-k.invariant.1 (elim c.if-j-lt30.branch [
-      | then-j-lt30+else-counts-j-eq0 w ↦ free_held _ _ _ (rw e at w.if-j-lt30.true) (rw e at w.if-counts-j-eq0.false)
-      | else-j-lt30 w ↦ free_no _ _ _ (rw e at w.if-j-lt30.false)
-    ]))
+    let e = c.place-j.ensures in (
+      search rules,
+      below_more _ _ c.loop-k.invariant.1 (elim c.if-j-lt30.branch [
+        | then-j-lt30+else-counts-j-eq0 w ↦ free_held _ _ _ (rw e at w.if-j-lt30.true) (rw e at w.if-counts-j-eq0.false)
+        | else-j-lt30 w ↦ free_no _ _ _ (rw e at w.if-j-lt30.false)
+      ]),
+    )
 
 pub returns : goal.returns
 returns c = least_none _ _ (λ i h. c.loop-k.invariant.1 i (omega arith))

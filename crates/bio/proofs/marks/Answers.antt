@@ -11,11 +11,13 @@ pub loop-i-init : goal.loop-i-init
 loop-i-init c = (search rules, marks_none _)
 
 pub loop-i-preserved : goal.loop-i-preserved
-loop-i-preserved c =
-    (search rules, elim c.if-j-lt30.branch [
-      | then-j-lt30 w ↦ marks_set _ _ _ _ c.loop-i.invariant.1 w.if-j-lt30.true w.m-is
-      | else-j-lt30 w ↦ marks_skip _ _ _ _ c.loop-i.invariant.1 w.if-j-lt30.false w.m-is
-    ])
+loop-i-preserved c = (
+  search rules,
+  elim c.if-j-lt30.branch [
+    | then-j-lt30 w ↦ marks_set _ _ _ _ c.loop-i.invariant.1 w.if-j-lt30.true w.m-is
+    | else-j-lt30 w ↦ marks_skip _ _ _ _ c.loop-i.invariant.1 w.if-j-lt30.false w.m-is
+  ],
+)
 
 pub returns : goal.returns
 returns c =

@@ -21,11 +21,13 @@ returns-then-same_name c =
     (entry-live _ _ _ c.get_u16.result c.get_u16.ensures c.if-get_u16-ne0.true c.same_name.result c.same_name.ensures ∙ c.if-same_name.true))
 
 pub loop-k-preserved : goal.loop-k-preserved
-loop-k-preserved c =
-    (search rules, below_more _ _ c.loop-k.invariant.1 (elim c.if-get_u16-ne0.branch [
-      | then-get_u16-ne0+else-same_name w ↦ entry-live _ _ _ c.get_u16.result c.get_u16.ensures w.if-get_u16-ne0.true w.same_name.result w.same_name.ensures ∙ w.if-same_name.false
-      | else-get_u16-ne0 w ↦ entry_free _ _ _ c.get_u16.result c.get_u16.ensures w.if-get_u16-ne0.false
-    ]))
+loop-k-preserved c = (
+  search rules,
+  below_more _ _ c.loop-k.invariant.1 (elim c.if-get_u16-ne0.branch [
+    | then-get_u16-ne0+else-same_name w ↦ entry-live _ _ _ c.get_u16.result c.get_u16.ensures w.if-get_u16-ne0.true w.same_name.result w.same_name.ensures ∙ w.if-same_name.false
+    | else-get_u16-ne0 w ↦ entry_free _ _ _ c.get_u16.result c.get_u16.ensures w.if-get_u16-ne0.false
+  ]),
+)
 
 pub returns : goal.returns
 returns c =

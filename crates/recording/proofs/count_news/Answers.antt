@@ -13,11 +13,13 @@ pub loop-i-init : goal.loop-i-init
 loop-i-init c = (search rules, counted_none _ _ _)
 
 pub loop-i-preserved : goal.loop-i-preserved
-loop-i-preserved c =
-    (search rules, elim c.if-not-is_recorded.branch [
-      | then-not-is_recorded w ↦ rw w.news-is (counted_new _ _ _ _ _ c.loop-i.invariant.1 (sym c.is_recorded.ensures ∙ w.if-not-is_recorded.true))
-      | else-not-is_recorded w ↦ rw w.news-is (counted_old _ _ _ _ _ c.loop-i.invariant.1 (sym c.is_recorded.ensures ∙ w.if-not-is_recorded.false))
-    ])
+loop-i-preserved c = (
+  search rules,
+  elim c.if-not-is_recorded.branch [
+    | then-not-is_recorded w ↦ rw w.news-is (counted_new _ _ _ _ _ c.loop-i.invariant.1 (sym c.is_recorded.ensures ∙ w.if-not-is_recorded.true))
+    | else-not-is_recorded w ↦ rw w.news-is (counted_old _ _ _ _ _ c.loop-i.invariant.1 (sym c.is_recorded.ensures ∙ w.if-not-is_recorded.false))
+  ],
+)
 
 pub returns : goal.returns
 returns c =

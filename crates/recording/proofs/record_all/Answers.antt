@@ -55,15 +55,17 @@ pub overflow_add-count : goal.overflow_add-count
 overflow_add-count c = omega (arith, at_count _ _ _ _ _ _ _ _ _ _ _ c.requires.0 c.loop-i.invariant.1 c.loop-i-test.true)
 
 pub loop-i-preserved : goal.loop-i-preserved
-loop-i-preserved c =
-    (search rules, elim c.if-not-is_recorded.branch [
-      | then-not-is_recorded w ↦ at_next _ _ _ _ _ _ _ _ _ _ _ c.requires.0 c.loop-i.invariant.1 c.loop-i-test.true _ _ _ _ _ _
-          (sym c.is_recorded.ensures ∙ w.if-not-is_recorded.true) w.choose-k.ensures
-          (ap bytes w.cache-is ∙ w.copy_part.ensures) (ap length w.cache-is ∙ w.copy_part.auto.dst ∙ c.loop-i.invariant.1.long)
-          (w.blocks-is ∙ w.store.ensures) (w.counts-is ∙ w.one_more.ensures) (w.homes-is ∙ w.store-then-not-is_recorded.ensures) w.count-is
-      | else-not-is_recorded w ↦ rw (w.cache-is, w.blocks-is, w.counts-is, w.homes-is, w.count-is)
-          (at_old _ _ _ _ _ _ _ _ _ _ _ c.requires.0 c.loop-i.invariant.1 c.loop-i-test.true (sym c.is_recorded.ensures ∙ w.if-not-is_recorded.false))
-    ])
+loop-i-preserved c = (
+  search rules,
+  elim c.if-not-is_recorded.branch [
+    | then-not-is_recorded w ↦ at_next _ _ _ _ _ _ _ _ _ _ _ c.requires.0 c.loop-i.invariant.1 c.loop-i-test.true _ _ _ _ _ _
+        (sym c.is_recorded.ensures ∙ w.if-not-is_recorded.true) w.choose-k.ensures
+        (ap bytes w.cache-is ∙ w.copy_part.ensures) (ap length w.cache-is ∙ w.copy_part.auto.dst ∙ c.loop-i.invariant.1.long)
+        (w.blocks-is ∙ w.store.ensures) (w.counts-is ∙ w.one_more.ensures) (w.homes-is ∙ w.store-then-not-is_recorded.ensures) w.count-is
+    | else-not-is_recorded w ↦ rw (w.cache-is, w.blocks-is, w.counts-is, w.homes-is, w.count-is)
+        (at_old _ _ _ _ _ _ _ _ _ _ _ c.requires.0 c.loop-i.invariant.1 c.loop-i-test.true (sym c.is_recorded.ensures ∙ w.if-not-is_recorded.false))
+  ],
+)
 
 pub overflow_cast-result : goal.overflow_cast-result
 overflow_cast-result c =

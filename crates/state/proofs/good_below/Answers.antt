@@ -17,11 +17,13 @@ pub returns-then-not-good_slot : goal.returns-then-not-good_slot
 returns-then-not-good_slot c = not_so (λ g. no_by c.good_slot.ensures c.if-not-good_slot.true (g _ c.loop-k-test.true c.if-refs-k-ne0.true))
 
 pub loop-k-preserved : goal.loop-k-preserved
-loop-k-preserved c =
-    (search rules, below_more (λ j. (get_or c.args.refs.now j 0 ≡ 0 → ⊥) → GoodSlot c.args.inums.now c.args.refs.now c.args.ninodes j) _ c.loop-k.invariant.1 (elim c.if-refs-k-ne0.branch [
-      | then-refs-k-ne0+else-not-good_slot w ↦ λ u. yes_by w.good_slot.ensures w.if-not-good_slot.false
-      | else-refs-k-ne0 w ↦ λ u. absurd (u w.if-refs-k-ne0.false)
-    ]))
+loop-k-preserved c = (
+  search rules,
+  below_more (λ j. (get_or c.args.refs.now j 0 ≡ 0 → ⊥) → GoodSlot c.args.inums.now c.args.refs.now c.args.ninodes j) _ c.loop-k.invariant.1 (elim c.if-refs-k-ne0.branch [
+    | then-refs-k-ne0+else-not-good_slot w ↦ λ u. yes_by w.good_slot.ensures w.if-not-good_slot.false
+    | else-refs-k-ne0 w ↦ λ u. absurd (u w.if-refs-k-ne0.false)
+  ]),
+)
 
 pub returns : goal.returns
 returns c =

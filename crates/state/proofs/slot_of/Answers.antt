@@ -18,11 +18,13 @@ unfolding slot_of
 returns-then-inums-k c = sym (first-at _ _ _ c.loop-k-test.true c.loop-k.invariant.1 (slot-found _ _ _ _ c.if-refs-k-ne0.true c.if-inums-k.true))
 
 pub loop-k-preserved : goal.loop-k-preserved
-loop-k-preserved c =
-    (search rules, below_more _ _ c.loop-k.invariant.1 (elim c.if-refs-k-ne0.branch [
-      | then-refs-k-ne0+else-inums-k w ↦ slot-other _ _ _ _ w.if-refs-k-ne0.true w.if-inums-k.false
-      | else-refs-k-ne0 w ↦ slot_free _ _ _ _ w.if-refs-k-ne0.false
-    ]))
+loop-k-preserved c = (
+  search rules,
+  below_more _ _ c.loop-k.invariant.1 (elim c.if-refs-k-ne0.branch [
+    | then-refs-k-ne0+else-inums-k w ↦ slot-other _ _ _ _ w.if-refs-k-ne0.true w.if-inums-k.false
+    | else-refs-k-ne0 w ↦ slot_free _ _ _ _ w.if-refs-k-ne0.false
+  ]),
+)
 
 pub returns : goal.returns
 unfolding slot_of
