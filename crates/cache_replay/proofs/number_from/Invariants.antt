@@ -1,0 +1,13 @@
+-- Ends at the text's end; the number stays below ten million.
+use lib.ListN.{length}
+use native.Mathlib.Omega.{arith}
+use mathlib.Core.Logic.{⊎_elim}
+use Prim.Native.Nat.{◌-◌, ◌<◌}
+use borrow.Author.Rules.{rules}
+use Rattle.cache_replay.proofs.number_from.Given as goal
+
+abbrev pub invariant-loop-i : goal.invariant-loop-i
+invariant-loop-i l = l.v < 10000000
+
+abbrev pub decreases-loop-i : goal.decreases-loop-i
+decreases-loop-i l = length l.s - l.i
