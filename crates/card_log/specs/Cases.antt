@@ -1,5 +1,5 @@
 -- Document 01's marked case 10, at the level of blocks: committing the list 32, 35, 34, 36 on case 1's card takes 10 writes; 4 leave the old,
--- 5 leave the new after recovery. Assumes nothing.
+-- 5 leave the new after recovery (proved in proofs/Cases.antt). Assumes nothing.
 use Rattle.std.specs.Prelude.{◌≡◌, refl, List, ℕ, zero, suc, ◌≤◌, ◌<◌}
 use Rattle.std.proofs.Common.{arith}
 use Rattle.base.specs.Bytes.{Bytes}
@@ -7,7 +7,6 @@ use Rattle.superblock.specs.declared.Super.{Super}
 use Rattle.superblock.specs.Geometry.{Laid}
 use Rattle.card_log.specs.Journal.{Tx, GoodLog, Outside, logged, commit_due, committed, after_crash}
 use Rattle.card_log.specs.Headers.{commit_due_some}
-use Rattle.card_log.specs.Crash.{pulled_card}
 
 -- case 1's card: size 64, ninodes 16, nlog 30
 abbrev pub card1 : Super
@@ -78,12 +77,3 @@ pub record Case10 (content : ℕ → Bytes) (d : Bytes) (ks : List ℕ) : Type 0
   pub writes : commit_due 4 ≡ 10
   pub four : (x : ℕ) → Outside card1 x → after_crash (saved10 content) 4 ks d x ≡ d x
   pub five : (x : ℕ) → Outside card1 x → after_crash (saved10 content) 5 ks d x ≡ committed (saved10 content) d x
-
--- for any contents, any card of case 1 with an empty log, and any recoveries that were cut before the last
-pub case10 : (content : ℕ → Bytes) (d : Bytes) (ks : List ℕ) → (logged d).count ≡ 0 → Case10 content d ks
-case10 content d ks z =
-    record {
-      writes = commit_due_some 4 (λ e. omega arith);
-      four = λ x o. (pulled_card card1 card1_laid (omega arith) (saved10 content) (saved10_good content) d z 4 ks).old (omega arith) x o;
-      five = λ x o. (pulled_card card1 card1_laid (omega arith) (saved10 content) (saved10_good content) d z 5 ks).new (omega arith) x o;
-    }

@@ -106,17 +106,3 @@ cases =
     ∷ case 12 (walked (97 ∷ 47 ∷ [])) (0 ∷ 2 ∷ [])
     ∷ case 12 (walked (97 ∷ 47 ∷ 98 ∷ [])) (6 ∷ [])
     ∷ []
-
--- the one test
-pub cases-right : right cases ≡ true
-unfolding cases dec_lt dec_le fresh put ones tabulate news_of among first commit_due after_crash recovered recoveries recover recover_due commit commit_write install_write home_write emptied logged held words put_words run le digit superBytes encoded addr_bytes root_block entry_bytes padded upd walk_of walk_in step_of lookup entry_of has_name same_name part_of end_of start_of ends other fit_of shape_of taken_of slot_fit num_of name_of slot entry ino_of bit_of mem_of node_in no_node bit_at all numbers root file letters inodes twoFilesBitmap card
-cases-right = refl
-
--- each row's equation
-pub each : (k : ℕ) → (row cases k).gives ≡ (row cases k).says
-each k = at cases cases-right k
-
--- as one reads
-pub fresh-bitmap : bitmap small 5 ≡ 255 ∷ 255 ∷ 255 ∷ 255 ∷ 15 ∷ []
-unfolding cases
-fresh-bitmap = each 1

@@ -15,7 +15,8 @@ use Rattle.bio.specs.Fresh.{fresh_table}
 use Rattle.bio.specs.Order.{least_recent, free_at}
 use Rattle.bio.specs.Seen.{buffer_of, buffer_none, seen, seen_in, seen_out, by_block}
 use Rattle.card_log.specs.Journal.{held, Outside, logged, recover_due, commit_due}
-use Rattle.card_log.specs.Crash.{commit-holds, commit_enough}
+use Rattle.card_log.specs.Crash.{commit_enough}
+use Rattle.card_log.proofs.Crash.{commit-holds}
 use Rattle.state.specs.declared.Volume.{Volume}
 use Rattle.state.specs.Whole.{Whole}
 use Rattle.transactions.specs.declared.Answer.{Answer}

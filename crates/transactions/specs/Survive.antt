@@ -14,8 +14,10 @@ use Rattle.bio.specs.Seen.{buffer_of, seen, seen_in, seen_out, buffer_none, by_b
 use Rattle.card_log.specs.Journal.{held, GoodLog, Settled, logged, recover, recover_due, commit, replaced}
 use Rattle.card_log.specs.Installing.{replaced_in, replaced_off}
 use Rattle.card_log.specs.Headers.{recover_due_most}
-use Rattle.card_log.specs.Crash.{Leads, recover_leads, recovered_done, commit-keeps, commit_turns, recover_enough}
-use Rattle.card_log.specs.Kept.{commit-below, recover-below}
+use Rattle.card_log.specs.Crash.{Leads, recover_leads, recovered_done, recover_enough}
+use Rattle.card_log.proofs.Crash.{commit-keeps, commit_turns}
+use Rattle.card_log.specs.Kept.{recover-below}
+use Rattle.card_log.proofs.Kept.{commit-below}
 use Rattle.state.specs.declared.Volume.{Volume}
 use Rattle.state.specs.Whole.{Whole}
 use Rattle.transactions.specs.Calls.{Left, paper, EndGives, MountGives, Recovered, Committed, recorded_tx, mounted}

@@ -7,7 +7,7 @@ use Rattle.superblock.specs.Geometry.{Good, super_of}
 use Rattle.bio.specs.Seen.{buffer_of}
 use Rattle.card_log.specs.Journal.{held, GoodLog, Within, logged, recover, recover_due, commit, commit_due}
 use Rattle.card_log.specs.Headers.{good_within}
-use Rattle.card_log.specs.Kept.{commit-same}
+use Rattle.card_log.proofs.Kept.{commit-same}
 use Rattle.state.specs.declared.Volume.{Volume}
 use Rattle.state.specs.Whole.{Whole}
 use Rattle.transactions.specs.declared.Answer.TheVariants.{Done, Cut}

@@ -80,21 +80,14 @@ module _ (v : Volume) (image cache : List ℕ) (h : Handle) (f : Inode) (from : 
 
   module _ (t : Fit v.sb (disk_of v cache image) (node f)) (offset count size n : ℕ) (sized : size ≡ f.size) (counted : n ≡ min count (size - offset)) where
     -- a byte of the content
-    byte_is : (k : ℕ) → k < n → content_at (memory v cache image) (node f) (offset + k) ≡ byte_of (disk_of v cache image) h.inum (offset + k)
+    pub byte_is : (k : ℕ) → k < n → content_at (memory v cache image) (node f) (offset + k) ≡ byte_of (disk_of v cache image) h.inum (offset + k)
     byte_is k l = sym (content v.sb (memory v cache image) (node f) t h.inum (offset + k) (sym is_inode) (omega arith))
-
-    pub read_done : (was is : Bytes) → is ≡ put was 0 n (λ k. content_at (memory v cache image) (node f) (offset + k))
-        → ◌≡◌ {A = ReadLeft} (v, done n, is) (v, done (read_count (disk_of v cache image) h.inum offset count), read_into (disk_of v cache image) h.inum offset (read_count (disk_of v cache image) h.inum offset count) was)
-    read_done was is q =
-        let z : n ≡ read_count (disk_of v cache image) h.inum offset count = omega (arith, size_is) in
-        ap {B = ReadLeft} (λ (m : Bytes). (v, done n, m)) (q ∙ put_same was 0 n _ _ byte_is)
-        ∙ ap {B = ReadLeft} (λ (m : ℕ). (v, done m, read_into (disk_of v cache image) h.inum offset m was)) z
 
 -- ---- where stat and read answer after they have fetched the inode
 
 module _ (v : Volume) (image cache : List ℕ) (h : Handle) (f : Inode) (w : Whole v image) (c : length cache ≡ 30720) (g : GoodHandle v.slots.inums v.slots.refs h)
     (e : f ≡ inode_at (memory v cache image) (inode_addr v.sb h.inum)) where
-  from : From v.sb h.inum
+  pub from : From v.sb h.inum
   from = handle_from v image w h g
 
   pub stat_unfit : {r : AfterStat} → (Fit v.sb (disk_of v cache image) (node f) → ⊥) → r ≡ not_stated v Unfit → StatGives v image cache h (stat_left r)
@@ -141,32 +134,6 @@ module _ (v : Volume) (image cache : List ℕ) (h : Handle) (f : Inode) (w : Who
                   inr (
                     λ x. x (fit_inode v image cache h f from e t),
                     inr (λ x. k (kind_is v image cache h f from e ∙ x), inl (omega (arith, size_is v image cache h f from e), read_gave buffer q)),
-                  ),
-                ),
-              ),
-            ),
-          )
-
-      pub read_told : (size n : ℕ) (is : Bytes) → (f.kind ≡ 3 → ⊥) → size ≡ f.size → offset ≤ size → n ≡ min count (size - offset)
-          → is ≡ put (bytes buffer) 0 n (λ k. content_at (memory v cache image) (node f) (offset + k)) → ReadGives v image cache h offset count buffer (v, done n, is)
-      read_told size n is k s l m q =
-          inr (
-            λ x. x w,
-            inr (
-              λ x. x c,
-              inr (
-                λ x. omega arith,
-                inr (
-                  λ x. x g,
-                  inr (
-                    λ x. x (fit_inode v image cache h f from e t),
-                    inr (
-                      λ x. k (kind_is v image cache h f from e ∙ x),
-                      inr (
-                        λ x. omega (arith, size_is v image cache h f from e),
-                        read_done v image cache h f from e t offset count size n s m (bytes buffer) is q,
-                      ),
-                    ),
                   ),
                 ),
               ),

@@ -5,7 +5,8 @@ use native.Mathlib.Omega.{arith}
 use Rattle.base.specs.Bytes.{bytes}
 use Rattle.card_log.specs.Journal.{held, emptied}
 use Rattle.card_log.specs.Installing.{install_last}
-use Rattle.card_log.specs.Crash.{commit-header, commit_install, commit-block, source_below, target_fits}
+use Rattle.card_log.specs.Crash.{source_below, target_fits}
+use Rattle.card_log.proofs.Crash.{commit-header, commit_install, commit-block}
 use borrow.Author.Rules.{rules}
 use Rattle.card_log.proofs.commit_write.Goals as goal
 

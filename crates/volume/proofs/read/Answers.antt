@@ -2,7 +2,8 @@
 use native.Mathlib.Omega.{arith}
 use mathlib.Core.Logic.{inl, inr}
 use borrow.Author.Rules.{rules}
-use Rattle.volume.specs.Inside.{numbers, lent, handle_from, not_below, read_unfit, read_device, read_past, read_told}
+use Rattle.volume.specs.Inside.{numbers, lent, handle_from, not_below, read_unfit, read_device, read_past}
+use Rattle.volume.proofs.ReadTold.{read_told}
 use Rattle.base.specs.Decide.{no_by, yes_by}
 use Rattle.content.specs.Parts.{fit_readable}
 use Rattle.volume.specs.Read.{read_gave}

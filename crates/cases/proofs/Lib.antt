@@ -1,0 +1,2 @@
+-- The table of the marked cases is right.
+pub mod Right

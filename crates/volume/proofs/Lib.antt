@@ -1,0 +1,2 @@
+-- Where read is done.
+pub mod ReadTold
