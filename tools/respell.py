@@ -27,6 +27,19 @@ BY_HAND = {
     "new-dir": "dir_is_new",  # beside newDir
     "is-set": "is_set_bit",  # beside is_set
     "From-start": "from_the_start",
+    # other names that an import gives
+    "blocksOf": "blocks_of",
+    "idleOf": "idle_of",
+    "stoppedOf": "stopped_of",
+    "paddedName": "padded_name",
+    "superBytes": "super_bytes",
+    "twoFilesBitmap": "two_files_bitmap",
+    # declared together with another
+    "endedVolume": "ended_volume",
+    "idleVolume": "idle_volume",
+    "namedInode": "named_inode",
+    "slotsIn": "slots_in",
+    "onCard": "lies_on_card",
 }
 
 HEAD = re.compile(r"^(\s*)((?:(?:pub|unfoldable|abbrev|data|record)\s+)*)(" + WORD + r")\s*:(?!=)\s")
@@ -88,13 +101,12 @@ def main():
     names = declared()
     definitions = {n for n, at in names.items() if "-" not in n and any(i == 0 for i, _, _ in at)}
     table = {n: respelled(n, definitions) for n in names}
+    table.update(BY_HAND)
     table = {n: m for n, m in table.items() if n != m}
     if "--list" in sys.argv:
         for n, m in sorted(table.items()):
             print(n, m)
         return
-    if table.keys() & set(BY_HAND.values()):
-        sys.exit("respell: it ran before")
     files = [f for pat in ("crates/*/must-fail/*.edit", "crates/*/specs/*.antt", "crates/*/proofs/*.antt", "crates/*/proofs/**/*.antt", "crates/*/src/*.rt") for f in glob.glob(pat, recursive=True)]
     tokens = re.compile(r"(?<![\w'₀-₉.\-·])[A-Za-z][\w'₀-₉\-]*|(?<=\.)[A-Za-z][\w'₀-₉\-]*")
     together(files, tokens, table)

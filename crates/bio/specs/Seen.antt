@@ -2,15 +2,15 @@
 -- The two arrays of a table, its blocks and its counts, are all that this depends on. Assumes nothing.
 use Rattle.std.proofs.Math.Path.{◌≡◌, refl, fun_ext}
 use Rattle.std.proofs.Common.{sym, ap, ◌∙◌}
-use Rattle.std.specs.Prelude.{Bool, List, ℕ, ◌+◌, ◌-◌, ◌*◌, ◌/◌, ◌%◌, ◌≤◌, ◌<◌, ltb}
+use Rattle.std.specs.Prelude.{Bool, List, ℕ, ◌+◌, ◌*◌, ◌/◌, ◌%◌, ◌≤◌, ◌<◌, ltb}
 use Rattle.std.proofs.Math.Bool.{true, false, cond}
 use native.Mathlib.Omega.{arith}
 use Rattle.std.proofs.Math.Decide.{ℕ_discrete, dec_lt}
 use Rattle.std.proofs.Math.ListN.{get_or}
 use Rattle.std.proofs.Math.Dec.{eqb}
-use borrow.Author.Tests.{eq-eqb, ne_eqb, eqb-true, lt-ltb, le-ltb, ltb-true, ltb-false}
-use Rattle.base.specs.First.{first, first-at, first-none, first-le, first_before, first_holds, first-same}
-use Rattle.base.specs.Bytes.{Bytes, put, put-at, put_in, put_out, is_put, Lies, inside, outside, lies}
+use borrow.Author.Tests.{eq-eqb, ne_eqb, eqb-true, lt-ltb, le-ltb, ltb-true}
+use Rattle.base.specs.First.{first, first-at, first-none, first_before, first_holds}
+use Rattle.base.specs.Bytes.{Bytes, put, put-at, put_out, Lies, inside, outside, lies}
 
 -- buffer j holds block b, with a reference
 unfoldable pub pinned : List ℕ → List ℕ → ℕ → ℕ → Bool

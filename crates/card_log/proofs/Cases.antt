@@ -1,10 +1,8 @@
 -- The marked case 10 at the level of blocks (statement: specs/Cases.antt), from the theorem of the pulled card. Assumes nothing.
-use Rattle.std.specs.Prelude.{◌≡◌, refl, List, ℕ, zero, suc, ◌≤◌, ◌<◌}
+use Rattle.std.specs.Prelude.{◌≡◌, List, ℕ}
 use Rattle.std.proofs.Common.{arith}
 use Rattle.base.specs.Bytes.{Bytes}
-use Rattle.superblock.specs.declared.Super.{Super}
-use Rattle.superblock.specs.Geometry.{Laid}
-use Rattle.card_log.specs.Journal.{Tx, GoodLog, Outside, logged, commit_due, committed, after_crash}
+use Rattle.card_log.specs.Journal.{logged}
 use Rattle.card_log.specs.Headers.{commit_due_some}
 use Rattle.card_log.proofs.Crash.{pulled_card}
 use Rattle.card_log.specs.Cases.{card1, card1_laid, saved10, saved10_good, Case10}

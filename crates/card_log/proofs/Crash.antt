@@ -4,10 +4,10 @@ use Rattle.std.specs.Prelude.{◌≡◌, ◌⊎◌, cond, leb}
 use Rattle.std.proofs.Math.Path.{refl, ap}
 use Rattle.std.proofs.Common.{sym, ◌∙◌, add-zero, add-suc, add-one}
 use Rattle.std.proofs.Math.Logic.{inl, inr, ⊎_elim}
-use mathlib.Core.List.{List, [], ◌∷◌}
+use mathlib.Core.List.{List}
 use Prim.Native.Nat.{ℕ, zero, suc, ◌+◌, ◌-◌, ◌*◌, ◌%◌, ◌≤◌, ◌<◌, min}
 use native.Mathlib.Omega.{arith}
-use Rattle.std.proofs.Math.Decide.{ℕ_discrete, dec_lt}
+use Rattle.std.proofs.Math.Decide.{ℕ_discrete}
 use borrow.Author.Tests.{lt-ltb, le-ltb, le-leb, lt-leb, eq-eqb, ne_eqb}
 use Rattle.base.specs.Bytes.{Bytes, block, put_block}
 use Rattle.base.specs.Decide.{le_or_lt, lt_or_le}
@@ -15,12 +15,12 @@ use Rattle.base.specs.Run.{run, run_none}
 use Rattle.superblock.specs.declared.Super.{Super}
 use Rattle.superblock.specs.Geometry.{Laid}
 use Rattle.card_log.specs.Words.{put_words, words_in, words-first, words_out, block_in, block_off}
-use Rattle.card_log.specs.Journal.{Tx, held, header, log_block, words, home_write, emptied, install_write, commit_write, commit_due, recover_due}
-use Rattle.card_log.specs.Journal.{commit, committed, logged, recover, recovered, recoveries, replaced, GoodLog, Outside, Settled, after_crash, Ready}
+use Rattle.card_log.specs.Journal.{Tx, held, header, log_block, words, home_write, install_write, commit_write, commit_due}
+use Rattle.card_log.specs.Journal.{commit, committed, logged, replaced, GoodLog, Outside, Settled, after_crash}
 use Rattle.card_log.specs.PulledCard.{Saved, PulledCard}
-use Rattle.card_log.specs.Installing.{Same, homes_forget, homes_below, homes_same, homes_again, install_home, install_part, install_all, install_same, replaced_in, replaced_off}
-use Rattle.card_log.specs.Headers.{commit_due_none, commit_due_some, recover_due_none, recover_due_some, recover_due_most, words_suc, empty_count, emptied_off, log_count, log_same, good_same, good_none}
-use Rattle.card_log.specs.Crash.{Leads, leads_empty, install_leads, recover_leads, recoveries_leads, recovered_done}
+use Rattle.card_log.specs.Installing.{Same, homes_forget, homes_same, install_home, install_all, install_same, replaced_in, replaced_off}
+use Rattle.card_log.specs.Headers.{commit_due_none, commit_due_some, recover_due_none, words_suc, empty_count, emptied_off, log_count, good_same}
+use Rattle.card_log.specs.Crash.{Leads, leads_empty, install_leads, recoveries_leads, recovered_done}
 
 -- the writes of a commit
 module _ (t : Tx) (k : ℕ) (d : Bytes) where

@@ -5,12 +5,11 @@ use Rattle.std.proofs.Math.Path.{refl, ap}
 use Rattle.std.proofs.Common.{sym, ◌∙◌, inl, inr, arith}
 use Prim.Native.Nat.{ℕ, zero, suc, ◌+◌, ◌-◌, ◌≤◌, ◌<◌}
 use Rattle.std.proofs.Math.Decide.{ℕ_discrete, dec_lt}
-use Rattle.base.specs.Bytes.{Bytes, put_out, block, put_block}
-use Rattle.base.specs.Number.{digit}
+use Rattle.base.specs.Bytes.{Bytes, block, put_block}
 use Rattle.base.specs.Decide.{lt_or_le}
 use Rattle.base.specs.Run.{run}
 use Rattle.card_log.specs.Words.{words_out, block_off}
-use Rattle.card_log.specs.Journal.{Tx, held, header, log_block, words, home_write, emptied, install_write, commit_write, commit, recover, logged}
+use Rattle.card_log.specs.Journal.{Tx, held, header, log_block, words, home_write, install_write, commit_write, commit}
 use Rattle.card_log.specs.Installing.{install_home, install_last}
 use Rattle.card_log.specs.Kept.{run_keeps, install_keeps}
 use Rattle.card_log.proofs.Crash.{commit_log, commit-header, commit_install}

@@ -22,7 +22,7 @@ use Rattle.superblock.specs.Entry.{padded, entry_bytes}
 use Rattle.superblock.specs.Node.{encoded, addr_bytes, node_in, no_node}
 use Rattle.superblock.specs.Disk.{disk, ino_of, bit_of, mem_of}
 use Rattle.base.specs.Update.{upd}
-use Rattle.format.specs.Formatted.{words as superBytes, root_block}
+use Rattle.format.specs.Formatted.{words as super_bytes, root_block}
 use Rattle.rules.specs.Fit.{entry, slot}
 use Rattle.rules.specs.Tree.{num_of, name_of}
 use Rattle.inode.specs.FitOf.{fit_of, shape_of, taken_of, slot_fit}
@@ -31,7 +31,7 @@ use Rattle.path.specs.Parts.{other, ends, start_of, end_of, part_of}
 use Rattle.dir.specs.Lookup.{has_name, entry_of, lookup}
 use Rattle.walk.specs.Step.{step_of}
 use Rattle.walk.specs.Walks.{walk_in, walk_of, given}
-use Rattle.walk.specs.Cases.{numbers, root, file, letters, inodes, bitmap as twoFilesBitmap, card}
+use Rattle.walk.specs.Cases.{numbers, root, file, letters, inodes, bitmap as two_files_bitmap, card}
 use Rattle.cases.specs.Table.{Case, case, right, row, at, told}
 
 -- where the areas are, and how many data blocks there are

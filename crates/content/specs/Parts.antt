@@ -7,7 +7,7 @@ use Rattle.superblock.specs.declared.Inode.{Inode}
 use Rattle.superblock.specs.Node.{Node, node}
 use Rattle.bio.specs.Seen.{seen}
 use Rattle.bio.specs.Part.{IsBlock}
-use Rattle.rules.specs.Fit.{Fit, slot, slot_of, blocks as blocksOf}
+use Rattle.rules.specs.Fit.{Fit, slot, slot_of, blocks as blocks_of}
 use Rattle.inode.specs.Lent.{Lent, disk_seen}
 use Rattle.inode.specs.Content.{block-taken}
 
@@ -19,7 +19,7 @@ content_at d r o = d (slot d r (slot_of (o / 1024)) * 1024 + o % 1024)
 pub record Readable (blocks counts cache image : List ℕ) (f : Inode) : Type 0 where
   pub buffers : length cache ≡ 30720
   pub small : f.size ≤ 274432
-  pub inside : (k : ℕ) → k < blocksOf f.size → slot (seen blocks counts (bytes cache) (bytes image)) (node f) (slot_of k) * 1024 + 1024 ≤ length image
+  pub inside : (k : ℕ) → k < blocks_of f.size → slot (seen blocks counts (bytes cache) (bytes image)) (node f) (slot_of k) * 1024 + 1024 ≤ length image
 
 -- m bytes of r's content from byte at on were put at place p of the buffer: n of them, or fewer where the block ends sooner
 pub record Part (d : Bytes) (r : Node) (at p n : ℕ) (was is : Bytes) (m : ℕ) : Type 0 where

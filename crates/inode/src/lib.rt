@@ -11,7 +11,7 @@ ghost use Rattle.base.specs.Decide.{Decides};
 ghost use Rattle.superblock.specs.Geometry.{GoodNumbers, inode_addr};
 ghost use Rattle.superblock.specs.Node.{node, inode_at};
 ghost use Rattle.bio.specs.Seen.{seen};
-ghost use Rattle.rules.specs.Fit.{Shape, Fit, slot, slot_of, blocks as blocksOf};
+ghost use Rattle.rules.specs.Fit.{Shape, Fit, slot, slot_of, blocks as blocks_of};
 ghost use Rattle.inode.specs.Lent.{Lent, disk_seen};
 ghost use Rattle.inode.specs.Slots.{TakenBy, SlotGood};
 ghost use Rattle.inode.specs.Tail.{BlankFrom};

@@ -1,6 +1,6 @@
 -- What a card says, apart from where it says it: its inodes, its bits, and the bytes of its data area. What lies out of range reads as a constant
 -- (a free inode, bit 0, byte 0), so that every change of a card is an equation between Disks. Assumes nothing.
-use Rattle.std.specs.Prelude.{Bool, true, false, cond, ◌&&◌, ℕ, ◌+◌, ◌-◌, ◌*◌, ◌/◌, ◌%◌, ◌≤◌, ◌<◌, leb, ltb, eqb}
+use Rattle.std.specs.Prelude.{cond, ◌&&◌, ℕ, ◌+◌, ◌*◌, ◌%◌, ltb}
 use Rattle.base.specs.Bytes.{Bytes, put}
 use Rattle.base.specs.Bit.{bit_at}
 use Rattle.base.specs.Update.{upd}

@@ -1,13 +1,11 @@
 -- The inode record: 64 bytes and what they say. `Node` is an inode as the theorems see it, its addresses a function; `Inode` is the struct that
 -- the code carries, and `node` the one it stands for. Decoding and encoding are inverse to each other. Assumes nothing.
-use Rattle.std.specs.Prelude.{◌≡◌, refl, Bool, true, false, cond, List, ℕ, zero, suc, ◌+◌, ◌-◌, ◌*◌, ◌/◌, ◌%◌, ◌^◌, ◌≤◌, ◌<◌, get_or, length, ltb}
+use Rattle.std.specs.Prelude.{◌≡◌, cond, ℕ, ◌+◌, ◌-◌, ◌*◌, ◌/◌, ◌%◌, ◌≤◌, ◌<◌, ltb}
 use Rattle.std.proofs.Common.{sym, ap, ◌∙◌, arith, lt-ltb, le-ltb}
-use Rattle.std.proofs.Math.Path.{fun_ext}
 use Rattle.std.proofs.Math.Decide.{dec_lt}
-use Rattle.std.proofs.Math.ListN.{get_or-eq_default}
-use Rattle.base.specs.First.{tabulate, tabulate-same, tabulate_is, get_d_tabulate, length-tabulate}
-use Rattle.base.specs.Bytes.{Bytes, bytes, put, put_in, put_out, put-at}
-use Rattle.base.specs.Number.{le, le_cong, le_lt, digit, le-digit, get, get-same, get_other, get_part, get_moved}
+use Rattle.base.specs.First.{tabulate}
+use Rattle.base.specs.Bytes.{Bytes, bytes, put}
+use Rattle.base.specs.Number.{le_cong, le_lt, digit, le-digit, get, get-same, get_other}
 use Rattle.superblock.specs.declared.Inode.{Inode}
 
 -- an inode: kind, device numbers, link count and size, and 13 addresses

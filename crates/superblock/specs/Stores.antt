@@ -1,6 +1,6 @@
 -- What a store does to a card's Disk: a store of an inode, of a bit and of data bytes each change just that, for any number of bitmap blocks.
 -- Assumes nothing.
-use Rattle.std.specs.Prelude.{◌≡◌, refl, ◌≢◌, Bool, true, false, ◌&&◌, List, ℕ, zero, suc, ◌+◌, ◌-◌, ◌*◌, ◌/◌, ◌%◌, ◌^◌, ◌≤◌, ◌<◌, get_or, length, set, leb, eqb}
+use Rattle.std.specs.Prelude.{◌≡◌, refl, ◌&&◌, List, ℕ, ◌+◌, ◌*◌, ◌/◌, ◌%◌, ◌≤◌, ◌<◌, get_or, length, set}
 use Rattle.std.proofs.Math.Path.{sym, ap, fun_ext}
 use Rattle.std.proofs.Common.{◌∙◌, arith}
 use Rattle.std.proofs.Math.Bool.{cond}
@@ -8,12 +8,11 @@ use Rattle.std.proofs.Math.Decide.{ℕ_discrete, dec_lt}
 use Rattle.std.proofs.Math.Dec.{ltb}
 use borrow.Author.Tests.{lt-ltb, le-ltb}
 use Rattle.base.specs.Bytes.{Bytes, bytes, bytes-set, put, put_in, put_out, put-at}
-use Rattle.base.specs.Number.{le, le_cong, le_lt, digit, get, get-same, get_other}
 use Rattle.base.specs.Bit.{bit_at, with_bit, bit_same, bit_other}
 use Rattle.base.specs.Update.{upd, upd_same, upd_other}
 use Rattle.superblock.specs.Geometry.{Super, Laid, bits, data_start, inode_addr, bit_addr}
-use Rattle.superblock.specs.Node.{Node, node_in, node_in_cong, node_in-encoded, node_in_fits, Fits, if_cong, encoded, no_node}
-use Rattle.superblock.specs.Disk.{Disk, ino_of, bit_of, mem_of, disk, set_ino, set_bit, set_mem}
+use Rattle.superblock.specs.Node.{Node, node_in_cong, node_in-encoded, node_in_fits, Fits, if_cong, encoded, no_node}
+use Rattle.superblock.specs.Disk.{ino_of, bit_of, mem_of, disk, set_ino, set_bit, set_mem}
 
 -- ---- the image's bytes
 

@@ -11,7 +11,7 @@ ghost use Rattle.base.specs.Decide.{Decides};
 ghost use Rattle.superblock.specs.Geometry.{Laid, GoodNumbers, Good, super_of, inode_block, inode_byte};
 ghost use Rattle.superblock.specs.Node.{node, encoded, addr_bytes, inode_at};
 ghost use Rattle.superblock.specs.Record.{sized, linked, addressed};
-ghost use Rattle.superblock.specs.Entry.{entry_at, entry_bytes, padded as paddedName};
+ghost use Rattle.superblock.specs.Entry.{entry_at, entry_bytes, padded as padded_name};
 ghost use Rattle.superblock.specs.Blank.{Blank};
 
 // The superblock's numbers. The log starts at block 2 on every good card, so that number is not kept.
@@ -210,7 +210,7 @@ pub fn with_addr(r: Inode, p: usize, b: u32) -> Inode
 
 // A name's 14 bytes: cut at 14, padded with zeros.
 pub fn padded(part: &[u8]) -> [u8; 14]
-    ensures { result ≡ paddedName part.now }
+    ensures { result ≡ padded_name part.now }
 {
     let mut name = [0u8; 14];
     let mut k: usize = 0;

@@ -10,7 +10,7 @@ ghost use Rattle.superblock.specs.Geometry.{Good, super_of};
 ghost use Rattle.bio.specs.Seen.{buffer_of};
 ghost use Rattle.card_log.specs.Journal.{GoodLog, logged};
 ghost use Rattle.state.specs.Whole.{Whole};
-ghost use Rattle.transactions.specs.Calls.{idle as idleOf, no_volume, with_ops, stopped as stoppedOf, ended as ended_of, refused};
+ghost use Rattle.transactions.specs.Calls.{idle as idle_of, no_volume, with_ops, stopped as stopped_of, ended as ended_of, refused};
 ghost use Rattle.transactions.specs.Calls.{Recovered, Committed, MountGives, BeginGives, EndGives};
 
 use base::Refusal;
@@ -44,7 +44,7 @@ fn refuse(v: Volume, n: Refusal) -> After
 
 // A volume with a fresh table, nothing open, nothing recorded, no slot in use.
 fn idle(sb: Super, live: u32) -> Volume
-    ensures { result ≡ idleOf sb live }
+    ensures { result ≡ idle_of sb live }
 {
     let table = bio::fresh();
     let slots = Slots {
@@ -86,7 +86,7 @@ fn with_ops(v: Volume, k: u32) -> Volume
 
 // After a commit that was cut.
 fn stopped(v: Volume) -> Volume
-    ensures { result ≡ stoppedOf v }
+    ensures { result ≡ stopped_of v }
 {
     let mut u = v;
     u.live = 0;

@@ -1,32 +1,21 @@
 -- Where read is done: the bytes of the content as it is seen, and the buffer past them (the definitions: specs/Read.antt). It stands here, and not in
 -- specs/, so that an edit of `read_into` is refused by these theorems. Assumes nothing.
-use Rattle.std.specs.Prelude.{◌≡◌, List, ℕ, ◌+◌, ◌-◌, ◌≤◌, ◌<◌, min, get_or, length, set, ℤ}
-use Rattle.std.proofs.Common.{sym, ap, ◌∙◌, arith, inl, inr}
+use Rattle.std.specs.Prelude.{◌≡◌, List, ℕ, ◌+◌, ◌-◌, ◌≤◌, min, length}
+use Rattle.std.proofs.Common.{ap, ◌∙◌, arith, inr}
 use Rattle.base.specs.Bytes.{Bytes, bytes, put, put_same}
 use Rattle.superblock.specs.declared.Inode.{Inode}
-use Rattle.superblock.specs.Geometry.{GoodNumbers, inode_addr}
-use Rattle.superblock.specs.Node.{Node, node, inode_at}
-use Rattle.bio.specs.Seen.{seen}
-use Rattle.rules.specs.Fit.{Fit, byte_of}
-use Rattle.inode.specs.Lent.{Lent}
-use Rattle.inode.specs.Fetch.{fetched}
-use Rattle.inode.specs.Content.{content}
+use Rattle.superblock.specs.Geometry.{inode_addr}
+use Rattle.superblock.specs.Node.{node, inode_at}
+use Rattle.rules.specs.Fit.{Fit}
 use Rattle.walk.specs.Step.{From}
 use Rattle.content.specs.Parts.{content_at}
 use Rattle.state.specs.Whole.{Whole}
-use Rattle.state.specs.Card.{card-numbers, card-length}
 use Rattle.state.specs.declared.Volume.{Volume}
 use Rattle.state.specs.declared.Handle.{Handle}
 use Rattle.slots.specs.Handles.{GoodHandle}
-use Rattle.volume.specs.Answers.{done, Left, disk_of}
-use Rattle.volume.specs.Signed.{signed}
-use Rattle.volume.specs.Close.{closed, with_slots}
-use Rattle.volume.specs.Stat.{Facts, facts_of, StatGives, stat_left, not_stated}
-use Rattle.volume.specs.Read.{ReadLeft, read_count, read_into, ReadGives, read_left, not_read, read_gave}
-use Rattle.volume.specs.declared.AfterStat.{AfterStat}
-use Rattle.volume.specs.declared.AfterRead.{AfterRead}
-use Rattle.base.specs.declared.Refusal.TheVariants.{Unfit, WrongKind, PastEnd}
-use Rattle.volume.specs.Inside.{numbers, memory, from, fit_inode, kind_is, size_is, byte_is}
+use Rattle.volume.specs.Answers.{done, disk_of}
+use Rattle.volume.specs.Read.{ReadLeft, read_count, read_into, ReadGives}
+use Rattle.volume.specs.Inside.{memory, from, fit_inode, kind_is, size_is, byte_is}
 
 module _ (v : Volume) (image cache : List ℕ) (h : Handle) (f : Inode) (from : From v.sb h.inum) (e : f ≡ inode_at (memory v cache image) (inode_addr v.sb h.inum)) where
   module _ (t : Fit v.sb (disk_of v cache image) (node f)) (offset count size n : ℕ) (sized : size ≡ f.size) (counted : n ≡ min count (size - offset)) where

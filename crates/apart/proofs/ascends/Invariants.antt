@@ -1,10 +1,7 @@
 -- ascends: the addresses passed are at most the last, and distinct (Apart.Climbed); a turn is `climbed_direct`.
-use mathlib.Core.Path.{◌≡◌, refl, ◌∙◌}
-use native.Mathlib.Omega.{arith}
 use Prim.Native.Nat.{◌-◌, ◌≤◌}
 use Rattle.base.specs.Bytes.{bytes}
-use Rattle.apart.specs.Apart.{slot_by, Climbed, climbed_none, climbed_as, climbed_direct, climbs_no}
-use borrow.Author.Rules.{rules}
+use Rattle.apart.specs.Apart.{slot_by, Climbed}
 use Rattle.apart.proofs.ascends.Given as goal
 
 abbrev pub invariant-loop-p : goal.invariant-loop-p

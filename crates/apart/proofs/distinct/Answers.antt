@@ -3,7 +3,6 @@ use native.Mathlib.Omega.{arith}
 use Prim.Native.Nat.{◌-◌}
 use Rattle.base.specs.Bytes.{bytes}
 use Rattle.apart.specs.Apart.{by_low, by_apart}
-use borrow.Author.Rules.{rules}
 use Rattle.apart.proofs.distinct.Goals as goal
 
 pub once-requires : goal.once-requires

@@ -1,9 +1,7 @@
 -- entries_ascend: the slots passed are at most the last, and distinct (Apart.Climbed); a turn is `climbed_entry`.
-use mathlib.Core.Path.{◌≡◌, refl, ◌∙◌}
 use native.Mathlib.Omega.{arith}
-use Prim.Native.Nat.{◌+◌, ◌-◌, ◌≤◌}
-use Rattle.base.specs.Bytes.{bytes}
-use Rattle.apart.specs.Apart.{slot_by, Climbed, climbed_as, climbed_entry, climbs_no, climbs_yes}
+use Prim.Native.Nat.{◌-◌}
+use Rattle.apart.specs.Apart.{climbed_as, climbed_entry, climbs_no, climbs_yes}
 use borrow.Author.Rules.{rules}
 use Rattle.apart.proofs.entries_ascend.Goals as goal
 

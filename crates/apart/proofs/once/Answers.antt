@@ -1,6 +1,5 @@
 -- once: numbers that ascend are distinct; else the marks decide.
 use Rattle.base.specs.Decide.{so}
-use borrow.Author.Rules.{rules}
 use Rattle.apart.proofs.once.Goals as goal
 
 pub returns-then-ascends : goal.returns-then-ascends

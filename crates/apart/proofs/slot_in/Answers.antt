@@ -3,7 +3,6 @@ use mathlib.Core.Path.{◌∙◌}
 use Prim.Native.Nat.{◌-◌}
 use Rattle.base.specs.Bytes.{bytes}
 use Rattle.apart.specs.Apart.{by_direct, by_listed}
-use borrow.Author.Rules.{rules}
 use Rattle.apart.proofs.slot_in.Goals as goal
 
 pub returns-then-p-lt13 : goal.returns-then-p-lt13

@@ -1,11 +1,10 @@
 -- unmarked: the marks are those of the slots passed, which are distinct (Apart.Marked).
 use mathlib.Core.Path.{◌≡◌, refl, ◌∙◌}
 use native.Mathlib.Omega.{arith}
-use Prim.Native.Nat.{◌-◌, ◌≤◌}
-use lib.ListN.{length}
+use Prim.Native.Nat.{◌-◌}
 use Rattle.base.specs.Bytes.{bytes}
 use Rattle.base.specs.Decide.{so}
-use Rattle.apart.specs.Apart.{slot_by, Marked, marked_start, marked_twice, marked_more}
+use Rattle.apart.specs.Apart.{slot_by, marked_start, marked_twice, marked_more}
 use borrow.Author.Rules.{rules}
 use Rattle.apart.proofs.unmarked.Goals as goal
 

@@ -1,12 +1,9 @@
 -- unmarked: the marks are those of the slots passed, which are distinct (Apart.Marked).
-use mathlib.Core.Path.{◌≡◌, refl, ◌∙◌}
-use native.Mathlib.Omega.{arith}
+use mathlib.Core.Path.{◌≡◌}
 use Prim.Native.Nat.{◌-◌, ◌≤◌}
 use lib.ListN.{length}
 use Rattle.base.specs.Bytes.{bytes}
-use Rattle.base.specs.Decide.{so}
-use Rattle.apart.specs.Apart.{slot_by, Marked, marked_start, marked_twice, marked_more}
-use borrow.Author.Rules.{rules}
+use Rattle.apart.specs.Apart.{slot_by, Marked}
 use Rattle.apart.proofs.unmarked.Given as goal
 
 abbrev pub invariant-loop-p : goal.invariant-loop-p

@@ -1,10 +1,8 @@
 -- `base::clear_part` meets its contract. The loop's invariant: the first i bytes from d on are 0, the rest is as it was; a turn is `store_more`. Assumes nothing.
-use mathlib.Core.Path.{◌≡◌, refl, sym}
-use native.Mathlib.Omega.{arith}
-use Prim.Native.Nat.{◌-◌, ◌+◌, ◌≤◌}
-use lib.ListN.{length, length-set}
-use Rattle.base.specs.Bytes.{bytes, put, put-none, store_more}
-use borrow.Author.Rules.{rules}
+use mathlib.Core.Path.{◌≡◌}
+use Prim.Native.Nat.{◌-◌, ◌≤◌}
+use lib.ListN.{length}
+use Rattle.base.specs.Bytes.{bytes, put}
 use Rattle.base.proofs.clear_part.Given as goal
 
 abbrev pub invariant-loop-i : goal.invariant-loop-i

@@ -1,10 +1,9 @@
 -- `base::copy_part` meets its contract. The loop's invariant: the first i bytes from d on are the source's, the rest is as it was; a turn is `store_more`. Assumes nothing.
 use mathlib.Core.Path.{◌≡◌, refl, sym}
 use native.Mathlib.Omega.{arith}
-use Prim.Native.Nat.{◌-◌, ◌+◌, ◌≤◌}
-use lib.ListN.{length, length-set}
-use Rattle.base.specs.Bytes.{bytes, put, put-none, store_more}
-use borrow.Author.Rules.{rules}
+use Prim.Native.Nat.{◌+◌}
+use lib.ListN.{length-set}
+use Rattle.base.specs.Bytes.{put-none, store_more}
 use Rattle.base.proofs.copy_part.Goals as goal
 
 pub loop-i-init : goal.loop-i-init

@@ -2,11 +2,7 @@
 use borrow.Author.Count.{below_more}
 use borrow.Author.Tests.{eq-eqb, ne_eqb}
 use mathlib.Core.Path.{◌≡◌, sym, ◌∙◌}
-use mathlib.Core.Bool.{false}
 use native.Mathlib.Omega.{arith}
-use Prim.Native.Nat.{ℕ, ◌-◌, ◌<◌, ◌≤◌}
-use lib.ListN.{get_or}
-use lib.Dec.{eqb}
 use Rattle.base.specs.First.{first-at, first-none}
 use borrow.Author.Rules.{rules}
 use Rattle.base.proofs.find.Goals as goal

@@ -1,14 +1,9 @@
 -- `base::find` meets its contract. The loop's invariant: no number passed is b; what is found is `first-at`, the end `first-none`. Assumes nothing.
-use borrow.Author.Count.{below_more}
-use borrow.Author.Tests.{eq-eqb, ne_eqb}
-use mathlib.Core.Path.{◌≡◌, sym, ◌∙◌}
+use mathlib.Core.Path.{◌≡◌}
 use mathlib.Core.Bool.{false}
-use native.Mathlib.Omega.{arith}
 use Prim.Native.Nat.{ℕ, ◌-◌, ◌<◌, ◌≤◌}
 use lib.ListN.{get_or}
 use lib.Dec.{eqb}
-use Rattle.base.specs.First.{first-at, first-none}
-use borrow.Author.Rules.{rules}
 use Rattle.base.proofs.find.Given as goal
 
 abbrev pub invariant-loop-i : goal.invariant-loop-i

@@ -1,7 +1,6 @@
 -- `base::get` meets its contract. In range it is the element; past the end a memory is 0: `bytes_past`. Assumes nothing.
 use mathlib.Core.Path.{sym}
 use lib.ListN.{get_or-eq_default}
-use borrow.Author.Rules.{rules}
 use Rattle.base.proofs.get.Goals as goal
 
 pub returns-else-i-s : goal.returns-else-i-s

@@ -2,7 +2,6 @@
 use native.Mathlib.Omega.{arith}
 use Prim.Native.Nat.{◌+◌}
 use Rattle.base.specs.Bytes.{bytes_past}
-use borrow.Author.Rules.{rules}
 use Rattle.base.proofs.get_past.Goals as goal
 
 pub returns-then-s-i : goal.returns-then-s-i

@@ -1,7 +1,6 @@
 -- `base::get_u16` meets its contract: where the slice reaches it is `read_u16`; else the two bytes joined are the number at a: `from_two`. Assumes nothing.
 use Rattle.base.specs.Bytes.{bytes}
 use Rattle.base.specs.Number.{from_two}
-use borrow.Author.Rules.{rules}
 use Rattle.base.proofs.get_u16.Goals as goal
 
 pub returns : goal.returns

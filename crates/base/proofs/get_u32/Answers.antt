@@ -1,7 +1,6 @@
 -- `base::get_u32` meets its contract: where the slice reaches it is `read_u32`; else the four bytes joined are the number at a: `from_four`. Assumes nothing.
 use Rattle.base.specs.Bytes.{bytes}
 use Rattle.base.specs.Number.{from_four}
-use borrow.Author.Rules.{rules}
 use Rattle.base.proofs.get_u32.Goals as goal
 
 pub returns : goal.returns

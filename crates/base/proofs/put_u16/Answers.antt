@@ -2,7 +2,6 @@
 use native.Mathlib.Omega.{arith}
 use lib.ListN.{length-set}
 use Rattle.base.specs.Number.{digit, set_two}
-use borrow.Author.Rules.{rules}
 use Rattle.base.proofs.put_u16.Goals as goal
 
 pub bounds-dst-a-2 : goal.bounds-dst-a-2

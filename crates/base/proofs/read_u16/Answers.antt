@@ -2,7 +2,6 @@
 use mathlib.Core.Path.{refl}
 use Rattle.base.specs.Bytes.{bytes}
 use Rattle.base.specs.Number.{from_two, here}
-use borrow.Author.Rules.{rules}
 use Rattle.base.proofs.read_u16.Goals as goal
 
 pub returns : goal.returns

@@ -1,7 +1,6 @@
 -- The start of the search: none of the buffers passed has the block, or `any` is 1.
 use native.Mathlib.Omega.{arith}
-use Prim.Native.Nat.{◌-◌, ◌≤◌}
-use Rattle.bio.specs.Low.{Missed, missed_none, missed_hit, missed_more, below_all, below-nothing}
+use Rattle.bio.specs.Low.{missed_none, missed_hit, missed_more, below_all, below-nothing}
 use borrow.Author.Rules.{rules}
 use Rattle.bio.proofs.begin_at.Goals as goal
 use Rattle.bio.proofs.begin_at.Goals.{then-blocks-j, else-blocks-j}

@@ -1,9 +1,6 @@
 -- The start of the search: none of the buffers passed has the block, or `any` is 1.
-use mathlib.Core.Logic.{⊎_elim}
-use native.Mathlib.Omega.{arith}
 use Prim.Native.Nat.{◌-◌, ◌≤◌}
-use Rattle.bio.specs.Low.{Missed, missed_none, missed_hit, missed_more, below_all, below-nothing}
-use borrow.Author.Rules.{rules}
+use Rattle.bio.specs.Low.{Missed}
 use Rattle.bio.proofs.begin_at.Given as goal
 
 abbrev pub invariant-loop-j : goal.invariant-loop-j

@@ -1,9 +1,7 @@
 -- The search for a buffer that holds a block: none of those passed does.
 use borrow.Author.Count.{below_more}
-use mathlib.Core.Path.{◌≡◌, sym}
-use mathlib.Core.Bool.{false}
+use mathlib.Core.Path.{sym}
 use native.Mathlib.Omega.{arith}
-use Prim.Native.Nat.{ℕ, ◌-◌, ◌<◌, ◌≤◌}
 use Rattle.base.specs.First.{first-at, first-none}
 use Rattle.bio.specs.Seen.{pinned, pinned_yes, pinned-other, pinned_clean, buffer_of}
 use borrow.Author.Rules.{rules}

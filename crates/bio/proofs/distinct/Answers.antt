@@ -2,9 +2,8 @@
 use Rattle.bio.specs.Among.{among-found, among_missed}
 use mathlib.Core.Path.{◌≡◌}
 use native.Mathlib.Omega.{arith}
-use Prim.Native.Nat.{◌-◌, ◌≤◌}
 use Rattle.base.specs.Decide.{so, not_so}
-use Rattle.bio.specs.Among.{Distinct, distinct_none, distinct_high, distinct_new, distinct_not}
+use Rattle.bio.specs.Among.{distinct_none, distinct_high, distinct_new, distinct_not}
 use borrow.Author.Rules.{rules}
 use Rattle.bio.proofs.distinct.Goals as goal
 use Rattle.bio.proofs.distinct.Goals.{then-x-limit+else-k-i, else-x-limit}

@@ -1,10 +1,8 @@
 -- The search from the end of the order: none of the places passed names a buffer without references.
-use mathlib.Core.Path.{◌≡◌, ◌∙◌}
-use mathlib.Core.Bool.{false}
+use mathlib.Core.Path.{◌∙◌}
 use native.Mathlib.Omega.{arith}
-use Prim.Native.Nat.{ℕ, ◌-◌, ◌≤◌, ◌<◌}
 use borrow.Author.Count.{below_more}
-use Rattle.bio.specs.Order.{free_at, free_no, free_held, free_yes, least_at, least_none}
+use Rattle.bio.specs.Order.{free_no, free_held, free_yes, least_at, least_none}
 use borrow.Author.Rules.{rules}
 use Rattle.bio.proofs.least_recent.Goals as goal
 use Rattle.bio.proofs.least_recent.Goals.{then-j-lt30+else-counts-j-eq0, else-j-lt30}

@@ -1,8 +1,7 @@
 -- The bits of the buffers that the order's places passed name.
 use mathlib.Core.Path.{◌≡◌}
 use native.Mathlib.Omega.{arith}
-use Prim.Native.Nat.{◌-◌, ◌≤◌}
-use Rattle.bio.specs.Mask.{Marks, marks_none, marks_skip, marks_set}
+use Rattle.bio.specs.Mask.{marks_none, marks_skip, marks_set}
 use borrow.Author.Rules.{rules}
 use Rattle.bio.proofs.marks.Goals as goal
 use Rattle.bio.proofs.marks.Goals.{then-j-lt30, else-j-lt30}

@@ -1,10 +1,6 @@
 -- The bits of the buffers that the order's places passed name.
-use mathlib.Core.Path.{◌≡◌}
-use mathlib.Core.Logic.{⊎_elim}
-use native.Mathlib.Omega.{arith}
 use Prim.Native.Nat.{◌-◌, ◌≤◌}
-use Rattle.bio.specs.Mask.{Marks, marks_none, marks_skip, marks_set}
-use borrow.Author.Rules.{rules}
+use Rattle.bio.specs.Mask.{Marks}
 use Rattle.bio.proofs.marks.Given as goal
 
 abbrev pub invariant-loop-i : goal.invariant-loop-i

@@ -1,6 +1,5 @@
 -- An order misses no buffer where all 30 bits are set.
 use Rattle.bio.specs.Mask.{marks_decide}
-use borrow.Author.Rules.{rules}
 use Rattle.bio.proofs.named.Goals as goal
 
 pub returns : goal.returns

@@ -2,7 +2,6 @@
 use Rattle.base.specs.Decide.{eq_decides, ne_decides}
 use Rattle.blocks.specs.Marks.{bit_low, bit_marked, bit_free}
 use native.Mathlib.Omega.{arith}
-use borrow.Author.Rules.{rules}
 use Rattle.blocks.proofs.bit_ok.Goals as goal
 
 pub returns-then-b-start : goal.returns-then-b-start

@@ -1,10 +1,9 @@
 -- clear: the first i numbers are 0.
 use mathlib.Core.Path.{◌≡◌, refl, sym}
 use native.Mathlib.Omega.{arith}
-use Prim.Native.Nat.{◌-◌, ◌≤◌}
-use lib.ListN.{length, length-set}
-use Rattle.base.specs.Bytes.{bytes, put, put-none, store_more}
-use borrow.Author.Rules.{rules}
+use Prim.Native.Nat.{◌-◌}
+use lib.ListN.{length-set}
+use Rattle.base.specs.Bytes.{put-none, store_more}
 use Rattle.blocks.proofs.clear.Goals as goal
 
 pub loop-i-init : goal.loop-i-init

@@ -1,10 +1,8 @@
 -- clear: the first i numbers are 0.
-use mathlib.Core.Path.{◌≡◌, refl, sym}
-use native.Mathlib.Omega.{arith}
+use mathlib.Core.Path.{◌≡◌}
 use Prim.Native.Nat.{◌-◌, ◌≤◌}
-use lib.ListN.{length, length-set}
-use Rattle.base.specs.Bytes.{bytes, put, put-none, store_more}
-use borrow.Author.Rules.{rules}
+use lib.ListN.{length}
+use Rattle.base.specs.Bytes.{bytes, put}
 use Rattle.blocks.proofs.clear.Given as goal
 
 abbrev pub invariant-loop-i : goal.invariant-loop-i

@@ -1,7 +1,6 @@
 -- count_of: 0 for a free inode, else by its size.
 use Rattle.blocks.specs.Fits.{count_free, count_used, count_small}
 use native.Mathlib.Omega.{arith}
-use borrow.Author.Rules.{rules}
 use Rattle.blocks.proofs.count_of.Goals as goal
 
 pub returns-then-k-eq0 : goal.returns-then-k-eq0

@@ -1,7 +1,6 @@
 -- inode_ok: free, or shape and slots.
 use Rattle.base.specs.Decide.{no_by, yes_by}
 use Rattle.blocks.specs.Fits.{inode_free, inode_shape, inode_slots}
-use borrow.Author.Rules.{rules}
 use Rattle.blocks.proofs.inode_ok.Goals as goal
 
 pub returns-then-k-eq0 : goal.returns-then-k-eq0

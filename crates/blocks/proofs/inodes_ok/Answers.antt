@@ -1,11 +1,8 @@
 -- inodes_ok: all inodes below i pass.
-use Prim.Native.Nat.{ℕ, ◌<◌, ◌≤◌, ◌-◌}
+use Prim.Native.Nat.{◌-◌}
 use native.Mathlib.Omega.{arith}
 use borrow.Author.Count.{below_more}
-use Rattle.base.specs.Bytes.{bytes}
-use Rattle.superblock.specs.Disk.{disk}
 use Rattle.base.specs.Decide.{so, not_so, no_by, yes_by}
-use Rattle.blocks.specs.Fits.{InodeOk}
 use borrow.Author.Rules.{rules}
 use Rattle.blocks.proofs.inodes_ok.Goals as goal
 

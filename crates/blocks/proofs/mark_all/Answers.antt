@@ -1,15 +1,10 @@
 -- mark_all: the memory is `marked_all` with the inodes below i.
-use Prim.Native.Nat.{ℕ, ◌<◌, ◌≤◌, ◌-◌}
+use Prim.Native.Nat.{◌-◌}
 use native.Mathlib.Omega.{arith}
 use mathlib.Core.Path.{◌≡◌, refl, ap, ◌∙◌}
 use borrow.Author.Count.{below_more}
-use borrow.Author.Tests.{not-false}
-use lib.ListN.{length}
-use Rattle.base.specs.Bytes.{bytes}
-use Rattle.superblock.specs.Disk.{disk}
-use Rattle.rules.specs.Fit.{held, count}
 use Rattle.base.specs.Decide.{so, not_so, never, no_by, yes_by}
-use Rattle.blocks.specs.Marks.{marked_all, Fresh, turn_all, turn_all_fresh, turn_all_stale, held_fits}
+use Rattle.blocks.specs.Marks.{marked_all, turn_all, turn_all_fresh, turn_all_stale, held_fits}
 use borrow.Author.Rules.{rules}
 use Rattle.blocks.proofs.mark_all.Goals as goal
 

@@ -1,12 +1,8 @@
 -- mark_slots: the memory is `marked` with the first p slots, each of which was fresh.
-use Prim.Native.Nat.{ℕ, ◌<◌, ◌≤◌, ◌-◌}
+use Prim.Native.Nat.{◌-◌}
 use native.Mathlib.Omega.{arith}
 use mathlib.Core.Path.{◌≡◌, refl}
 use borrow.Author.Count.{below_more}
-use lib.ListN.{length}
-use Rattle.base.specs.Bytes.{bytes}
-use Rattle.superblock.specs.Disk.{disk}
-use Rattle.rules.specs.Fit.{held}
 use Rattle.base.specs.Decide.{so, not_so, never}
 use Rattle.blocks.specs.Marks.{marked, turn_mark, turn_fresh, turn_stale}
 use borrow.Author.Rules.{rules}

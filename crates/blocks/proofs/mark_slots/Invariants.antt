@@ -1,15 +1,11 @@
 -- mark_slots: the memory is `marked` with the first p slots, each of which was fresh.
 use Prim.Native.Nat.{ℕ, ◌<◌, ◌≤◌, ◌-◌}
-use native.Mathlib.Omega.{arith}
-use mathlib.Core.Path.{◌≡◌, refl}
-use borrow.Author.Count.{below_more}
+use mathlib.Core.Path.{◌≡◌}
 use lib.ListN.{length}
 use Rattle.base.specs.Bytes.{bytes}
 use Rattle.superblock.specs.Disk.{disk}
 use Rattle.rules.specs.Fit.{held}
-use Rattle.base.specs.Decide.{so, not_so, never}
-use Rattle.blocks.specs.Marks.{marked, turn_mark, turn_fresh, turn_stale}
-use borrow.Author.Rules.{rules}
+use Rattle.blocks.specs.Marks.{marked}
 use Rattle.blocks.proofs.mark_slots.Given as goal
 
 abbrev pub invariant-loop-p : goal.invariant-loop-p

@@ -1,6 +1,5 @@
 -- s3: the root's kind, then each inode.
 use Rattle.blocks.specs.Fits.{s3_root, s3_each}
-use borrow.Author.Rules.{rules}
 use Rattle.blocks.proofs.s3.Goals as goal
 
 pub returns-then-k-ne1 : goal.returns-then-k-ne1

@@ -1,8 +1,6 @@
 -- s4: cleared marks, all fresh, then the bits.
 use Rattle.base.specs.Decide.{no_by, yes_by}
 use Rattle.blocks.specs.Marks.{s4_not_fresh, s4_bits, cleared}
-use borrow.Author.Tests.{not-false}
-use borrow.Author.Rules.{rules}
 use Rattle.blocks.proofs.s4.Goals as goal
 
 pub returns-then-not-fresh : goal.returns-then-not-fresh

@@ -1,7 +1,6 @@
 -- slot_ok: by whether the slot is in use.
 use Rattle.base.specs.Decide.{eq_decides}
 use Rattle.blocks.specs.Fits.{slot-first, slot-rest}
-use borrow.Author.Rules.{rules}
 use Rattle.blocks.proofs.slot_ok.Goals as goal
 
 pub returns-then-p-n : goal.returns-then-p-n

@@ -1,11 +1,8 @@
 -- slots_ok: all slots below p pass.
-use Prim.Native.Nat.{ℕ, ◌<◌, ◌≤◌, ◌-◌}
+use Prim.Native.Nat.{◌-◌}
 use native.Mathlib.Omega.{arith}
 use borrow.Author.Count.{below_more}
-use Rattle.base.specs.Bytes.{bytes}
-use Rattle.superblock.specs.Disk.{disk}
 use Rattle.base.specs.Decide.{so, not_so, no_by, yes_by}
-use Rattle.blocks.specs.Fits.{SlotOk}
 use borrow.Author.Rules.{rules}
 use Rattle.blocks.proofs.slots_ok.Goals as goal
 

@@ -1,12 +1,8 @@
 -- slots_ok: all slots below p pass.
 use Prim.Native.Nat.{ℕ, ◌<◌, ◌≤◌, ◌-◌}
-use native.Mathlib.Omega.{arith}
-use borrow.Author.Count.{below_more}
 use Rattle.base.specs.Bytes.{bytes}
 use Rattle.superblock.specs.Disk.{disk}
-use Rattle.base.specs.Decide.{so, not_so, no_by, yes_by}
 use Rattle.blocks.specs.Fits.{SlotOk}
-use borrow.Author.Rules.{rules}
 use Rattle.blocks.proofs.slots_ok.Given as goal
 
 abbrev pub invariant-loop-p : goal.invariant-loop-p

@@ -2,7 +2,6 @@
 use mathlib.Core.Path.{sym, ◌∙◌}
 use native.Mathlib.Omega.{arith}
 use Rattle.base.specs.Decide.{not_so, alike, eq_decides}
-use borrow.Author.Rules.{rules}
 use Rattle.blocks.proofs.taken.Goals as goal
 
 pub returns-then-b-start : goal.returns-then-b-start

@@ -1,10 +1,6 @@
 -- The loop has shown the counts passed to be at most 1,000.
 use Prim.Native.Nat.{ℕ, ◌-◌, ◌≤◌, ◌<◌}
-use native.Mathlib.Omega.{arith}
 use lib.ListN.{get_or}
-use borrow.Author.Count.{below_more}
-use Rattle.base.specs.Decide.{so, not_so}
-use borrow.Author.Rules.{rules}
 use Rattle.cache.proofs.bounded.Given as goal
 
 abbrev pub invariant-loop-j : goal.invariant-loop-j

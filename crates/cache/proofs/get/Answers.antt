@@ -3,7 +3,6 @@ use Rattle.cache.specs.Steps.{free_room}
 use native.Mathlib.Omega.{arith}
 use Rattle.base.specs.Decide.{no_by, yes_by}
 use Rattle.cache.specs.Steps.{get_ill, get_short, get_out, get-full, get_hit, get_none, get_miss}
-use borrow.Author.Rules.{rules}
 use Rattle.cache.proofs.get.Goals as goal
 
 pub returns-then-not-well_formed : goal.returns-then-not-well_formed

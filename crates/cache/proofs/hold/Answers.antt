@@ -2,7 +2,6 @@
 use mathlib.Core.Path.{◌∙◌, ap}
 use lib.ListN.{set}
 use Prim.Native.Nat.{ℕ, ◌+◌}
-use borrow.Author.Rules.{rules}
 use Rattle.cache.proofs.hold.Goals as goal
 
 pub returns : goal.returns

@@ -1,7 +1,6 @@
 -- Two tests on the block's number.
 use native.Mathlib.Omega.{arith}
 use Rattle.base.specs.Decide.{so, not_so}
-use borrow.Author.Rules.{rules}
 use Rattle.cache.proofs.inside.Goals as goal
 
 pub returns-then-b-eq4294967295 : goal.returns-then-b-eq4294967295

@@ -2,7 +2,6 @@
 use mathlib.Core.Path.{sym}
 use native.Mathlib.Omega.{arith}
 use Rattle.bio.specs.Order.{front_before, front_after}
-use borrow.Author.Rules.{rules}
 use Rattle.cache.proofs.moved_at.Goals as goal
 
 pub returns-then-i-p : goal.returns-then-i-p

@@ -7,7 +7,6 @@ use Rattle.base.specs.Decide.{no_by, yes_by}
 use Rattle.bio.specs.Order.{named-place}
 use Rattle.cache.specs.Tables.{with_count, released_last, released_more}
 use Rattle.cache.specs.Calls.{went_as}
-use borrow.Author.Rules.{rules}
 use Rattle.cache.proofs.release.Goals as goal
 
 pub returns-then-not-well_formed : goal.returns-then-not-well_formed

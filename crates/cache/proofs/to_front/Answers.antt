@@ -1,8 +1,7 @@
 -- The loop fills place after place of the order with j at the front.
-use Prim.Native.Nat.{ℕ, ◌-◌, ◌≤◌, ◌<◌}
+use Prim.Native.Nat.{◌-◌}
 use native.Mathlib.Omega.{arith}
-use mathlib.Core.Path.{◌≡◌}
-use lib.ListN.{get_or, length}
+use lib.ListN.{get_or}
 use Rattle.base.specs.First.{filled_more}
 use Rattle.bio.specs.Order.{front, front_is}
 use borrow.Author.Rules.{rules}

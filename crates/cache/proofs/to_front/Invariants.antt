@@ -1,11 +1,8 @@
 -- The loop fills place after place of the order with j at the front.
 use Prim.Native.Nat.{ℕ, ◌-◌, ◌≤◌, ◌<◌}
-use native.Mathlib.Omega.{arith}
 use mathlib.Core.Path.{◌≡◌}
 use lib.ListN.{get_or, length}
-use Rattle.base.specs.First.{filled_more}
-use Rattle.bio.specs.Order.{front, front_is}
-use borrow.Author.Rules.{rules}
+use Rattle.bio.specs.Order.{front}
 use Rattle.cache.proofs.to_front.Given as goal
 
 abbrev pub invariant-loop-i : goal.invariant-loop-i

@@ -6,7 +6,6 @@ use native.Mathlib.Omega.{arith}
 use Rattle.base.specs.Decide.{no_by, yes_by}
 use Rattle.cache.specs.Tables.{with_count}
 use Rattle.cache.specs.Calls.{went_as}
-use borrow.Author.Rules.{rules}
 use Rattle.cache.proofs.unpin.Goals as goal
 
 pub returns-then-not-well_formed : goal.returns-then-not-well_formed

@@ -1,5 +1,4 @@
 -- One store to the counts.
-use borrow.Author.Rules.{rules}
 use Rattle.cache.proofs.with_count.Goals as goal
 
 pub returns : goal.returns

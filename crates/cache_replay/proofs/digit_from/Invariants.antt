@@ -2,7 +2,6 @@
 use Prim.Native.Nat.{◌≤◌}
 use lib.ListN.{length}
 use Prim.Native.Nat.{◌-◌}
-use borrow.Author.Rules.{rules}
 use Rattle.cache_replay.proofs.digit_from.Given as goal
 
 abbrev pub invariant-loop-i : goal.invariant-loop-i

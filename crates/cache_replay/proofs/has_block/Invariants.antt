@@ -1,7 +1,6 @@
 -- Ends: the place moves through the part.
 use lib.ListN.{length}
 use Prim.Native.Nat.{◌-◌, ◌≤◌}
-use borrow.Author.Rules.{rules}
 use Rattle.cache_replay.proofs.has_block.Given as goal
 
 abbrev pub invariant-loop-i : goal.invariant-loop-i

@@ -1,8 +1,6 @@
 -- Ends at the text's end; the number stays below ten million.
-use lib.ListN.{length}
 use native.Mathlib.Omega.{arith}
-use Prim.Native.Nat.{◌-◌, ◌<◌}
-use borrow.Author.Rules.{rules}
+use Prim.Native.Nat.{◌-◌}
 use Rattle.cache_replay.proofs.number_from.Goals as goal
 use Rattle.cache_replay.proofs.number_from.Goals.{then-v-lt1000000, else-v-lt1000000}
 

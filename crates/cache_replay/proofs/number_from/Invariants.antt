@@ -1,9 +1,6 @@
 -- Ends at the text's end; the number stays below ten million.
 use lib.ListN.{length}
-use native.Mathlib.Omega.{arith}
-use mathlib.Core.Logic.{⊎_elim}
 use Prim.Native.Nat.{◌-◌, ◌<◌}
-use borrow.Author.Rules.{rules}
 use Rattle.cache_replay.proofs.number_from.Given as goal
 
 abbrev pub invariant-loop-i : goal.invariant-loop-i

@@ -1,9 +1,6 @@
 -- At most 1,000 steps; the differences are no more than the steps, and the memory keeps its length.
 use native.Mathlib.Omega.{arith}
-use Prim.Native.Nat.{◌-◌, ◌≤◌}
-use lib.ListN.{length}
-use mathlib.Core.Path.{◌≡◌}
-use borrow.Author.Rules.{rules}
+use Prim.Native.Nat.{◌-◌}
 use Rattle.cache_replay.proofs.replay.Goals as goal
 use Rattle.cache_replay.proofs.replay.Goals.{then-not-as_listed, else-not-as_listed}
 

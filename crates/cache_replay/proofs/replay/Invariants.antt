@@ -1,10 +1,7 @@
 -- At most 1,000 steps; the differences are no more than the steps, and the memory keeps its length.
-use native.Mathlib.Omega.{arith}
-use mathlib.Core.Logic.{⊎_elim}
 use Prim.Native.Nat.{◌-◌, ◌≤◌}
 use lib.ListN.{length}
 use mathlib.Core.Path.{◌≡◌}
-use borrow.Author.Rules.{rules}
 use Rattle.cache_replay.proofs.replay.Given as goal
 
 abbrev pub invariant-loop-steps : goal.invariant-loop-steps

@@ -1,6 +1,5 @@
 -- Thirty turns.
 use Prim.Native.Nat.{◌-◌, ◌≤◌}
-use borrow.Author.Rules.{rules}
 use Rattle.cache_replay.proofs.same_order.Given as goal
 
 abbrev pub invariant-loop-i : goal.invariant-loop-i

@@ -1,7 +1,6 @@
 -- `calls_replay::number` is safe and ends. Assumes nothing.
 use Prim.Native.Nat.{◌-◌, ◌<◌}
 use lib.ListN.{length}
-use borrow.Author.Rules.{rules}
 use Rattle.calls_replay.proofs.number.Given as goal
 
 abbrev pub invariant-loop-i : goal.invariant-loop-i

@@ -1,6 +1,5 @@
 -- `calls_replay::say_bytes` is safe and ends. Assumes nothing.
 use Prim.Native.Nat.{◌-◌, ◌≤◌}
-use borrow.Author.Rules.{rules}
 use Rattle.calls_replay.proofs.say_bytes.Given as goal
 
 abbrev pub invariant-loop-i : goal.invariant-loop-i

@@ -1,6 +1,5 @@
 -- say_inodes: i counts up to ninodes.
 use Prim.Native.Nat.{◌-◌, ◌≤◌}
-use borrow.Author.Rules.{rules}
 use Rattle.card.proofs.say_inodes.Given as goal
 
 abbrev pub invariant-loop-i : goal.invariant-loop-i

@@ -1,13 +1,11 @@
 -- `commit` meets its contract: after k turns the image is a run of k writes. Assumes nothing.
 use mathlib.Core.Path.{◌≡◌, ◌∙◌, sym, ap, refl}
-use Prim.Native.Nat.{◌≤◌, ◌<◌, ◌-◌, min}
+use Prim.Native.Nat.{◌<◌, ◌-◌, min}
 use native.Mathlib.Omega.{arith}
-use lib.ListN.{length}
 use Rattle.base.specs.Bytes.{bytes}
 use Rattle.base.specs.Run.{run, run_more, run_none}
 use Rattle.card_log.specs.Journal.{held, commit_write, commit, commit_due}
 use Rattle.card_log.specs.Headers.{commit_due_under, ready_as}
-use borrow.Author.Rules.{rules}
 use Rattle.card_log.proofs.commit.Goals as goal
 
 pub loop-k-init : goal.loop-k-init

@@ -1,7 +1,6 @@
 -- `commit_due` meets its contract: the two cases of `commit_due`. Assumes nothing.
 use Rattle.card_log.specs.Headers.{commit_due_none, commit_due_some}
 use mathlib.Core.Path.{sym}
-use borrow.Author.Rules.{rules}
 use Rattle.card_log.proofs.commit_due.Goals as goal
 
 pub returns-then-n-eq0 : goal.returns-then-n-eq0

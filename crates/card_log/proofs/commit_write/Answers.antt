@@ -7,7 +7,6 @@ use Rattle.card_log.specs.Journal.{held, emptied}
 use Rattle.card_log.specs.Installing.{install_last}
 use Rattle.card_log.specs.Crash.{source_below, target_fits}
 use Rattle.card_log.proofs.Crash.{commit-header, commit_install, commit-block}
-use borrow.Author.Rules.{rules}
 use Rattle.card_log.proofs.commit_write.Goals as goal
 
 pub offset_bounds-bufs-i : goal.offset_bounds-bufs-i

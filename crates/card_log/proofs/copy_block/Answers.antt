@@ -1,12 +1,11 @@
 -- `copy_block` meets its contract: the first i bytes are the source's. Assumes nothing.
-use mathlib.Core.Path.{◌≡◌, refl}
-use Prim.Native.Nat.{ℕ, ◌≤◌, ◌<◌, ◌-◌}
+use mathlib.Core.Path.{refl}
+use Prim.Native.Nat.{◌-◌}
 use native.Mathlib.Omega.{arith}
-use lib.ListN.{length, get_or, length-set}
+use lib.ListN.{length-set}
 use lib.Seq.{ext_get_or}
 use Rattle.base.specs.Bytes.{bytes}
 use Rattle.base.specs.First.{filled_more}
-use borrow.Author.Rules.{rules}
 use Rattle.card_log.proofs.copy_block.Goals as goal
 
 pub loop-i-init : goal.loop-i-init

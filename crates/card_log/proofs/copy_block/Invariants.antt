@@ -1,12 +1,7 @@
 -- `copy_block` meets its contract: the first i bytes are the source's. Assumes nothing.
-use mathlib.Core.Path.{◌≡◌, refl}
+use mathlib.Core.Path.{◌≡◌}
 use Prim.Native.Nat.{ℕ, ◌≤◌, ◌<◌, ◌-◌}
-use native.Mathlib.Omega.{arith}
-use lib.ListN.{length, get_or, length-set}
-use lib.Seq.{ext_get_or}
-use Rattle.base.specs.Bytes.{bytes}
-use Rattle.base.specs.First.{filled_more}
-use borrow.Author.Rules.{rules}
+use lib.ListN.{length, get_or}
 use Rattle.card_log.proofs.copy_block.Given as goal
 
 abbrev pub invariant-loop-i : goal.invariant-loop-i

@@ -5,7 +5,6 @@ use mathlib.Core.Path.{◌∙◌, ap}
 use Prim.Native.Nat.{ℕ, ◌+◌, ◌*◌, ◌-◌}
 use lib.ListN.{get_or}
 use Rattle.card_log.specs.Words.{part_read}
-use borrow.Author.Rules.{rules}
 use Rattle.card_log.proofs.get_block.Goals as goal
 
 pub returns : goal.returns

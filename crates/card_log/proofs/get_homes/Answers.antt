@@ -1,13 +1,12 @@
 -- `get_homes` meets its contract: the first i homes are those of the header. Assumes nothing.
-use mathlib.Core.Path.{◌≡◌, refl}
-use Prim.Native.Nat.{ℕ, ◌≤◌, ◌<◌, ◌-◌, ◌+◌, ◌*◌}
+use mathlib.Core.Path.{refl}
+use Prim.Native.Nat.{◌-◌, ◌+◌, ◌*◌}
 use native.Mathlib.Omega.{arith}
-use lib.ListN.{length, get_or, length-set}
+use lib.ListN.{length-set}
 use Rattle.base.specs.Bytes.{bytes}
 use Rattle.base.specs.Number.{get}
 use Rattle.base.specs.First.{filled_more}
 use Rattle.card_log.specs.Journal.{header}
-use borrow.Author.Rules.{rules}
 use Rattle.card_log.proofs.get_homes.Goals as goal
 
 pub loop-i-init : goal.loop-i-init

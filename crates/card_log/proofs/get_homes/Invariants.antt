@@ -1,13 +1,10 @@
 -- `get_homes` meets its contract: the first i homes are those of the header. Assumes nothing.
-use mathlib.Core.Path.{◌≡◌, refl}
+use mathlib.Core.Path.{◌≡◌}
 use Prim.Native.Nat.{ℕ, ◌≤◌, ◌<◌, ◌-◌, ◌+◌, ◌*◌}
-use native.Mathlib.Omega.{arith}
-use lib.ListN.{length, get_or, length-set}
+use lib.ListN.{length, get_or}
 use Rattle.base.specs.Bytes.{bytes}
 use Rattle.base.specs.Number.{get}
-use Rattle.base.specs.First.{filled_more}
 use Rattle.card_log.specs.Journal.{header}
-use borrow.Author.Rules.{rules}
 use Rattle.card_log.proofs.get_homes.Given as goal
 
 abbrev pub invariant-loop-i : goal.invariant-loop-i

@@ -5,7 +5,6 @@ use native.Mathlib.Omega.{arith}
 use Rattle.base.specs.Bytes.{bytes}
 use Rattle.base.specs.Decide.{not_so, alike}
 use Rattle.card_log.specs.Headers.{Read, header_long_not, header_good, header_homes}
-use borrow.Author.Rules.{rules}
 use Rattle.card_log.proofs.good_header.Goals as goal
 
 pub returns-then-n-gt29 : goal.returns-then-n-gt29

@@ -3,7 +3,6 @@ use mathlib.Core.Path.{◌≡◌}
 use Prim.Native.Nat.{◌+◌, ◌-◌, ◌*◌}
 use native.Mathlib.Omega.{arith}
 use Rattle.base.specs.Bytes.{bytes_mid}
-use borrow.Author.Rules.{rules}
 use Rattle.card_log.proofs.put_block.Goals as goal
 
 pub returns : goal.returns

@@ -4,7 +4,6 @@ use Prim.Native.Nat.{◌*◌, ◌+◌, ◌-◌}
 use native.Mathlib.Omega.{arith}
 use Rattle.base.specs.Bytes.{bytes, block}
 use Rattle.card_log.specs.Words.{block_same, part_read}
-use borrow.Author.Rules.{rules}
 use Rattle.card_log.proofs.put_buffer.Goals as goal
 
 pub returns : goal.returns

@@ -1,14 +1,9 @@
 -- `put_header` meets its contract: the homes are put one after the other, then the length before them. Assumes nothing.
-use mathlib.Core.Path.{◌≡◌, ◌∙◌, sym, ap, refl}
-use Prim.Native.Nat.{ℕ, ◌≤◌, ◌-◌, ◌+◌, ◌*◌}
-use native.Mathlib.Omega.{arith}
+use mathlib.Core.Path.{◌≡◌}
+use Prim.Native.Nat.{◌≤◌, ◌-◌}
 use lib.ListN.{length}
-use Rattle.base.specs.Bytes.{Bytes, bytes, put}
-use Rattle.base.specs.Number.{digit}
-use Rattle.card_log.specs.Words.{put_words, words_more, words_cons, words-none}
-use Rattle.card_log.specs.Journal.{words, header}
-use Rattle.card_log.specs.Headers.{words_suc}
-use borrow.Author.Rules.{rules}
+use Rattle.base.specs.Bytes.{bytes}
+use Rattle.card_log.specs.Words.{put_words}
 use Rattle.card_log.proofs.put_header.Given as goal
 
 abbrev pub invariant-loop-i : goal.invariant-loop-i

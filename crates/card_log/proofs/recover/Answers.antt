@@ -1,13 +1,11 @@
 -- `recover` meets its contract: after k turns the image is a run of k writes, and the log's blocks are still those it began with. Assumes nothing.
 use mathlib.Core.Path.{◌≡◌, ◌∙◌, sym, ap, refl}
-use Prim.Native.Nat.{◌≤◌, ◌<◌, ◌-◌, min}
+use Prim.Native.Nat.{◌<◌, ◌-◌, min}
 use native.Mathlib.Omega.{arith}
-use lib.ListN.{length}
 use Rattle.base.specs.Bytes.{bytes}
 use Rattle.base.specs.Run.{run, run_none}
 use Rattle.card_log.specs.Journal.{logged, install_write, recover, recover_due}
 use Rattle.card_log.specs.Headers.{Read, log_length, recover_due_under, read_within, read_turn}
-use borrow.Author.Rules.{rules}
 use Rattle.card_log.proofs.recover.Goals as goal
 
 pub get_homes-homes-requires : goal.get_homes-homes-requires

@@ -1,7 +1,6 @@
 -- `recover_due` meets its contract: the two cases of `recover_due`. Assumes nothing.
 use Rattle.card_log.specs.Headers.{recover_due_none, recover_due_some}
 use mathlib.Core.Path.{sym}
-use borrow.Author.Rules.{rules}
 use Rattle.card_log.proofs.recover_due.Goals as goal
 
 pub returns-then-n-eq0 : goal.returns-then-n-eq0

@@ -6,7 +6,6 @@ use Rattle.base.specs.Bytes.{bytes, put_block}
 use Rattle.card_log.specs.Words.{block_same}
 use Rattle.card_log.specs.Journal.{held, home_write, emptied, log_block}
 use Rattle.card_log.specs.Installing.{install_home, install_last}
-use borrow.Author.Rules.{rules}
 use Rattle.card_log.proofs.recover_write.Goals as goal
 
 pub put_block-requires : goal.put_block-requires

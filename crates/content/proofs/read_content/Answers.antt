@@ -1,13 +1,9 @@
 -- `content::read_content` meets its contract. The loop's invariant: the first d bytes are in the buffer; a turn is `more`. Assumes nothing.
 use native.Mathlib.Omega.{arith}
 use mathlib.Core.Path.{◌≡◌, refl, sym}
-use Prim.Native.Nat.{◌-◌, ◌+◌, ◌≤◌}
-use lib.ListN.{length}
-use borrow.Author.Rules.{rules}
-use Rattle.base.specs.Bytes.{bytes, put, put-none}
-use Rattle.superblock.specs.Node.{node}
-use Rattle.bio.specs.Seen.{seen}
-use Rattle.content.specs.Parts.{content_at, more}
+use Prim.Native.Nat.{◌-◌}
+use Rattle.base.specs.Bytes.{put-none}
+use Rattle.content.specs.Parts.{more}
 use Rattle.content.proofs.read_content.Goals as goal
 
 pub loop-d-init : goal.loop-d-init

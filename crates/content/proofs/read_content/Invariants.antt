@@ -1,13 +1,11 @@
 -- `content::read_content` meets its contract. The loop's invariant: the first d bytes are in the buffer; a turn is `more`. Assumes nothing.
-use native.Mathlib.Omega.{arith}
-use mathlib.Core.Path.{◌≡◌, refl, sym}
+use mathlib.Core.Path.{◌≡◌}
 use Prim.Native.Nat.{◌-◌, ◌+◌, ◌≤◌}
 use lib.ListN.{length}
-use borrow.Author.Rules.{rules}
-use Rattle.base.specs.Bytes.{bytes, put, put-none}
+use Rattle.base.specs.Bytes.{bytes, put}
 use Rattle.superblock.specs.Node.{node}
 use Rattle.bio.specs.Seen.{seen}
-use Rattle.content.specs.Parts.{content_at, more}
+use Rattle.content.specs.Parts.{content_at}
 use Rattle.content.proofs.read_content.Given as goal
 
 abbrev pub invariant-loop-d : goal.invariant-loop-d

@@ -1,6 +1,5 @@
 -- `content::read_part` meets its contract: the block is all there (`block-full`), and its bytes are the content's (`part_of`). Assumes nothing.
 use native.Mathlib.Omega.{arith}
-use borrow.Author.Rules.{rules}
 use Rattle.content.specs.Parts.{part_of, block-full}
 use Rattle.content.proofs.read_part.Goals as goal
 

@@ -1,12 +1,11 @@
 -- dir_lookup: no entry of the blocks passed has the name; one block is answered for by Entries.block-found and block_passed.
-use mathlib.Core.Path.{◌≡◌, ap, sym, ◌∙◌}
+use mathlib.Core.Path.{ap, sym, ◌∙◌}
 use native.Mathlib.Omega.{arith}
-use Prim.Native.Nat.{ℕ, ◌-◌, ◌*◌, ◌/◌, ◌<◌, ◌≤◌}
+use Prim.Native.Nat.{ℕ, ◌-◌, ◌/◌}
 use mathlib.Core.Bool.{false}
 use Rattle.base.specs.Bytes.{bytes}
-use Rattle.bio.specs.Seen.{seen}
 use Rattle.path.specs.Names.{name_of}
-use Rattle.dir.specs.Entries.{entry_is, entry_addr, look_none, block-found, block_passed}
+use Rattle.dir.specs.Entries.{look_none, block-found, block_passed}
 use borrow.Author.Rules.{rules}
 use Rattle.dir.proofs.dir_lookup.Goals as goal
 

@@ -1,7 +1,7 @@
 -- entry_in: no entry passed has the name; a search by `first`.
 use mathlib.Core.Path.{◌≡◌, sym, ◌∙◌}
 use native.Mathlib.Omega.{arith}
-use Prim.Native.Nat.{ℕ, ◌-◌, ◌*◌, ◌<◌, ◌≤◌}
+use Prim.Native.Nat.{◌-◌, ◌*◌}
 use mathlib.Core.Bool.{false}
 use borrow.Author.Count.{below_more}
 use Rattle.base.specs.First.{first-at, first-none}

@@ -1,15 +1,10 @@
 -- entry_in: no entry passed has the name; a search by `first`.
-use mathlib.Core.Path.{◌≡◌, sym, ◌∙◌}
-use native.Mathlib.Omega.{arith}
+use mathlib.Core.Path.{◌≡◌}
 use Prim.Native.Nat.{ℕ, ◌-◌, ◌*◌, ◌<◌, ◌≤◌}
 use mathlib.Core.Bool.{false}
-use mathlib.Core.Logic.{⊎_elim}
-use borrow.Author.Count.{below_more}
-use Rattle.base.specs.First.{first-at, first-none}
 use Rattle.base.specs.Bytes.{bytes}
 use Rattle.path.specs.Names.{name_of}
-use Rattle.dir.specs.Entries.{entry_is, entry_free, entry-live}
-use borrow.Author.Rules.{rules}
+use Rattle.dir.specs.Entries.{entry_is}
 use Rattle.dir.proofs.entry_in.Given as goal
 
 abbrev pub invariant-loop-k : goal.invariant-loop-k

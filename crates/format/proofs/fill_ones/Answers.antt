@@ -1,10 +1,9 @@
 -- `format::fill_ones` meets its contract: the loop has put the first i bytes (`store_more`).
 use mathlib.Core.Path.{◌≡◌, refl, sym}
 use native.Mathlib.Omega.{arith}
-use Prim.Native.Nat.{◌-◌, ◌+◌, ◌≤◌}
-use lib.ListN.{length, length-set}
-use Rattle.base.specs.Bytes.{bytes, put, put-none, store_more}
-use borrow.Author.Rules.{rules}
+use Prim.Native.Nat.{◌+◌}
+use lib.ListN.{length-set}
+use Rattle.base.specs.Bytes.{put-none, store_more}
 use Rattle.format.proofs.fill_ones.Goals as goal
 
 pub loop-i-init : goal.loop-i-init

@@ -1,10 +1,8 @@
 -- `format::fill_ones` meets its contract: the loop has put the first i bytes (`store_more`).
-use mathlib.Core.Path.{◌≡◌, refl, sym}
-use native.Mathlib.Omega.{arith}
-use Prim.Native.Nat.{◌-◌, ◌+◌, ◌≤◌}
-use lib.ListN.{length, length-set}
-use Rattle.base.specs.Bytes.{bytes, put, put-none, store_more}
-use borrow.Author.Rules.{rules}
+use mathlib.Core.Path.{◌≡◌}
+use Prim.Native.Nat.{◌-◌, ◌≤◌}
+use lib.ListN.{length}
+use Rattle.base.specs.Bytes.{bytes, put}
 use Rattle.format.proofs.fill_ones.Given as goal
 
 abbrev pub invariant-loop-i : goal.invariant-loop-i

@@ -3,7 +3,6 @@ use Prim.Native.Nat.{ℕ, ◌*◌}
 use mathlib.Core.Path.{refl, ap, sym, ◌∙◌}
 use mathlib.Core.Logic.{inl, inr}
 use Rattle.base.specs.Decide.{no_by, yes_by}
-use borrow.Author.Rules.{rules}
 use Rattle.format.proofs.format.Goals as goal
 
 pub returns-then-not-good_request : goal.returns-then-not-good_request

@@ -1,7 +1,6 @@
 -- `format::good_request` meets its contract: a limit that is broken refutes its field, and `good_numbers` decides the numbers made.
 use native.Mathlib.Omega.{arith}
 use Rattle.base.specs.Decide.{not_so}
-use borrow.Author.Rules.{rules}
 use Rattle.format.proofs.good_request.Goals as goal
 
 pub returns-then-size-gt8191 : goal.returns-then-size-gt8191

@@ -2,7 +2,6 @@
 use native.Mathlib.Omega.{arith}
 use lib.Pow.{pow_pos}
 use Rattle.format.specs.Laws.{low_byte}
-use borrow.Author.Rules.{rules}
 use Rattle.format.proofs.low_ones.Goals as goal
 
 pub overflow_sub-result : goal.overflow_sub-result

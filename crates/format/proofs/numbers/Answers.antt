@@ -1,6 +1,5 @@
 -- `format::numbers` meets its contract: each number is the one of `numbers_of`.
 use Prim.Native.Nat.{◌+◌, ◌/◌}
-use borrow.Author.Rules.{rules}
 use Rattle.format.proofs.numbers.Goals as goal
 
 pub returns : goal.returns

@@ -1,7 +1,6 @@
 -- `format::put_root` meets its contract: the block is copied whole (`root_copied`).
 use mathlib.Core.Path.{◌∙◌}
 use Rattle.format.specs.Laws.{root_copied}
-use borrow.Author.Rules.{rules}
 use Rattle.format.proofs.put_root.Goals as goal
 
 pub returns : goal.returns

@@ -1,7 +1,6 @@
 -- `format::put_super` meets its contract: the eight stores make up the 32 bytes (`super_written`).
 use mathlib.Core.Path.{◌∙◌}
 use Rattle.format.specs.Laws.{super_written}
-use borrow.Author.Rules.{rules}
 use Rattle.format.proofs.put_super.Goals as goal
 
 pub returns : goal.returns

@@ -1,6 +1,5 @@
 -- `format::root_inode` meets its contract: the first address is the block, and the others are 0 (`root_addrs`).
 use Rattle.format.specs.Laws.{root_addrs}
-use borrow.Author.Rules.{rules}
 use Rattle.format.proofs.root_inode.Goals as goal
 
 pub returns : goal.returns

@@ -1,7 +1,6 @@
 -- `format::write_fresh` meets its contract: the parts, put one after the other over zeros, make up a fresh card (`fresh-written`).
 use mathlib.Core.Path.{◌∙◌}
 use Rattle.format.specs.Laws.{fresh-written, all_zero}
-use borrow.Author.Rules.{rules}
 use Rattle.format.proofs.write_fresh.Goals as goal
 
 pub returns : goal.returns

@@ -1,6 +1,6 @@
 -- addresses_good: every address passed is good.
 use native.Mathlib.Omega.{arith}
-use Prim.Native.Nat.{ℕ, ◌-◌, ◌<◌, ◌≤◌}
+use Prim.Native.Nat.{◌-◌}
 use lib.ListN.{get_or}
 use Rattle.base.specs.Bytes.{bytes}
 use borrow.Author.Count.{below_more}

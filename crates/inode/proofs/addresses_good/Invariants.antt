@@ -1,13 +1,8 @@
 -- addresses_good: every address passed is good.
-use native.Mathlib.Omega.{arith}
 use Prim.Native.Nat.{ℕ, ◌-◌, ◌<◌, ◌≤◌}
 use lib.ListN.{get_or}
 use Rattle.base.specs.Bytes.{bytes}
-use borrow.Author.Count.{below_more}
-use Rattle.base.specs.Decide.{so, no_by, yes_by}
 use Rattle.inode.specs.Slots.{SlotGood}
-use Rattle.inode.specs.Fitness.{each_no}
-use borrow.Author.Rules.{rules}
 use Rattle.inode.proofs.addresses_good.Given as goal
 
 abbrev pub invariant-loop-p : goal.invariant-loop-p

@@ -1,9 +1,7 @@
 -- blank_from: the largest byte passed (Tail.Largest).
-use mathlib.Core.Path.{◌≡◌, refl, sym}
 use native.Mathlib.Omega.{arith}
-use Prim.Native.Nat.{◌-◌, ◌≤◌}
-use Rattle.base.specs.Bytes.{bytes}
-use Rattle.inode.specs.Tail.{Largest, largest_none, largest_old, largest_new, largest_end}
+use Prim.Native.Nat.{◌-◌}
+use Rattle.inode.specs.Tail.{largest_none, largest_old, largest_new, largest_end}
 use borrow.Author.Rules.{rules}
 use Rattle.inode.proofs.blank_from.Goals as goal
 use Rattle.inode.proofs.blank_from.Goals.{then-most-x, else-most-x}

@@ -1,11 +1,7 @@
 -- blank_from: the largest byte passed (Tail.Largest).
-use mathlib.Core.Path.{◌≡◌, refl, sym}
-use mathlib.Core.Logic.{⊎_elim}
-use native.Mathlib.Omega.{arith}
 use Prim.Native.Nat.{◌-◌, ◌≤◌}
 use Rattle.base.specs.Bytes.{bytes}
-use Rattle.inode.specs.Tail.{Largest, largest_none, largest_old, largest_new, largest_end}
-use borrow.Author.Rules.{rules}
+use Rattle.inode.specs.Tail.{Largest}
 use Rattle.inode.proofs.blank_from.Given as goal
 
 abbrev pub invariant-loop-i : goal.invariant-loop-i

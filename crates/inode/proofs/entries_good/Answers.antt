@@ -1,6 +1,6 @@
 -- entries_good: every entry passed is good; past the count the rest are 0 (Tail.tail_good).
 use native.Mathlib.Omega.{arith}
-use Prim.Native.Nat.{ℕ, ◌+◌, ◌-◌, ◌*◌, ◌<◌, ◌≤◌}
+use Prim.Native.Nat.{◌+◌, ◌-◌, ◌*◌}
 use Rattle.base.specs.Bytes.{bytes}
 use borrow.Author.Count.{below_more}
 use Rattle.base.specs.Number.{get}

@@ -1,14 +1,8 @@
 -- entries_good: every entry passed is good; past the count the rest are 0 (Tail.tail_good).
-use native.Mathlib.Omega.{arith}
 use Prim.Native.Nat.{ℕ, ◌+◌, ◌-◌, ◌*◌, ◌<◌, ◌≤◌}
 use Rattle.base.specs.Bytes.{bytes}
-use borrow.Author.Count.{below_more}
 use Rattle.base.specs.Number.{get}
-use Rattle.base.specs.Decide.{so, no_by, yes_by}
 use Rattle.inode.specs.Slots.{SlotGood}
-use Rattle.inode.specs.Fitness.{each_no}
-use Rattle.inode.specs.Tail.{tail_good, used_good}
-use borrow.Author.Rules.{rules}
 use Rattle.inode.proofs.entries_good.Given as goal
 
 abbrev pub invariant-loop-k : goal.invariant-loop-k

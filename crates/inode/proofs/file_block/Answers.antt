@@ -2,7 +2,6 @@
 use Prim.Native.Nat.{◌-◌}
 use Rattle.base.specs.Bytes.{bytes}
 use Rattle.inode.specs.Slots.{block_direct, block_none, block_listed}
-use borrow.Author.Rules.{rules}
 use Rattle.inode.proofs.file_block.Goals as goal
 
 pub returns-then-k-lt12 : goal.returns-then-k-lt12

@@ -7,7 +7,6 @@ use Rattle.base.specs.Decide.{no_by, yes_by}
 use Rattle.superblock.specs.Node.{node}
 use Rattle.rules.specs.Fit.{blocks}
 use Rattle.inode.specs.Fitness.{unfit_shape, unfit_address, fit_small, fit_large}
-use borrow.Author.Rules.{rules}
 use Rattle.inode.proofs.fit.Goals as goal
 
 pub returns-then-not-shape : goal.returns-then-not-shape

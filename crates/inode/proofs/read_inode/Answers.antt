@@ -3,7 +3,6 @@ use mathlib.Core.Path.{refl}
 use Prim.Native.Nat.{◌-◌}
 use Rattle.base.specs.Bytes.{bytes}
 use Rattle.inode.specs.Fetch.{fetch}
-use borrow.Author.Rules.{rules}
 use Rattle.inode.proofs.read_inode.Goals as goal
 
 pub returns : goal.returns

@@ -2,7 +2,6 @@
 use Prim.Native.Nat.{◌-◌}
 use Rattle.base.specs.Bytes.{bytes}
 use Rattle.inode.specs.Fitness.{slot_used, slot_unused}
-use borrow.Author.Rules.{rules}
 use Rattle.inode.proofs.slot_good.Goals as goal
 
 pub returns-then-p-n : goal.returns-then-p-n

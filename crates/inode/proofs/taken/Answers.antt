@@ -3,7 +3,6 @@ use mathlib.Core.Path.{refl, ap, ◌∙◌}
 use Prim.Native.Nat.{◌-◌}
 use Rattle.base.specs.Bytes.{bytes}
 use Rattle.inode.specs.Fitness.{taken_low, taken_high, taken_bit}
-use borrow.Author.Rules.{rules}
 use Rattle.inode.proofs.taken.Goals as goal
 
 pub returns-then-b-from : goal.returns-then-b-from

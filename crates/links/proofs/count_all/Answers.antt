@@ -1,12 +1,10 @@
 -- count_all: the counts are those of the directories below j (`Upto`).
-use Prim.Native.Nat.{ℕ, ◌<◌, ◌≤◌, ◌-◌}
+use Prim.Native.Nat.{◌-◌}
 use native.Mathlib.Omega.{arith}
-use mathlib.Core.Path.{◌≡◌}
-use lib.ListN.{length}
 use Rattle.base.specs.Bytes.{bytes}
 use Rattle.superblock.specs.Disk.{disk}
 use Rattle.rules.specs.Tree.{tree}
-use Rattle.links.specs.Counts.{Upto, all_start, all_turn, all_done}
+use Rattle.links.specs.Counts.{all_start, all_turn, all_done}
 use borrow.Author.Rules.{rules}
 use Rattle.links.proofs.count_all.Goals as goal
 

@@ -1,12 +1,8 @@
 -- count_row: the counts are those at the start and the tally of the entries below k (`Row`).
-use Prim.Native.Nat.{◌≤◌, ◌-◌}
+use Prim.Native.Nat.{◌-◌}
 use native.Mathlib.Omega.{arith}
-use mathlib.Core.Path.{◌≡◌, refl}
-use lib.ListN.{length}
-use Rattle.base.specs.Bytes.{bytes}
-use Rattle.superblock.specs.Disk.{disk}
-use Rattle.rules.specs.Tree.{tree}
-use Rattle.links.specs.Counts.{Row, row_start, row_turn, row_done, row_small}
+use mathlib.Core.Path.{refl}
+use Rattle.links.specs.Counts.{row_start, row_turn, row_done, row_small}
 use borrow.Author.Rules.{rules}
 use Rattle.links.proofs.count_row.Goals as goal
 

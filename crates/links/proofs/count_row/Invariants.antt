@@ -1,13 +1,11 @@
 -- count_row: the counts are those at the start and the tally of the entries below k (`Row`).
 use Prim.Native.Nat.{◌≤◌, ◌-◌}
-use native.Mathlib.Omega.{arith}
-use mathlib.Core.Path.{◌≡◌, refl}
+use mathlib.Core.Path.{◌≡◌}
 use lib.ListN.{length}
 use Rattle.base.specs.Bytes.{bytes}
 use Rattle.superblock.specs.Disk.{disk}
 use Rattle.rules.specs.Tree.{tree}
-use Rattle.links.specs.Counts.{Row, row_start, row_turn, row_done, row_small}
-use borrow.Author.Rules.{rules}
+use Rattle.links.specs.Counts.{Row}
 use Rattle.links.proofs.count_row.Given as goal
 
 abbrev pub invariant-loop-k : goal.invariant-loop-k

@@ -1,7 +1,6 @@
 -- link_ok: by the kind.
 use Rattle.base.specs.Decide.{eq_decides}
 use Rattle.links.specs.Counts.{link_free, link-root, link_dir, link-none, link_many, link-count}
-use borrow.Author.Rules.{rules}
 use Rattle.links.proofs.link_ok.Goals as goal
 
 pub returns-then-d-eq0 : goal.returns-then-d-eq0

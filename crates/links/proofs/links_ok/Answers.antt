@@ -1,11 +1,8 @@
 -- links_ok: all inodes below i pass.
-use Prim.Native.Nat.{ℕ, ◌<◌, ◌≤◌, ◌-◌}
+use Prim.Native.Nat.{◌-◌}
 use native.Mathlib.Omega.{arith}
-use Rattle.base.specs.Bytes.{bytes}
-use Rattle.superblock.specs.Disk.{disk}
-use Rattle.rules.specs.Tree.{tree}
 use Rattle.base.specs.Decide.{so, not_so, no_by, yes_by}
-use Rattle.links.specs.Counts.{LinkOk, from_more}
+use Rattle.links.specs.Counts.{from_more}
 use borrow.Author.Rules.{rules}
 use Rattle.links.proofs.links_ok.Goals as goal
 

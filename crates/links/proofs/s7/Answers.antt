@@ -2,7 +2,6 @@
 use Rattle.base.specs.Decide.{not_so, alike}
 use Rattle.links.specs.Counts.{s7_to, s7_from}
 use mathlib.Core.Path.{sym, ◌∙◌}
-use borrow.Author.Rules.{rules}
 use Rattle.links.proofs.s7.Goals as goal
 
 pub returns-then-l-ne1 : goal.returns-then-l-ne1

@@ -7,7 +7,6 @@ use Rattle.base.specs.Number.{get}
 use Rattle.base.specs.Decide.{so, alike, negated}
 use Rattle.reads.specs.Read.{is_to}
 use Rattle.names.specs.Names.{words_differ}
-use borrow.Author.Rules.{rules}
 use Rattle.names.proofs.differs.Goals as goal
 
 pub returns-then-x-eq0 : goal.returns-then-x-eq0

@@ -1,6 +1,5 @@
 -- dir_if: only a directory is asked.
 use Rattle.names.specs.Names.{not_dir, is_dir, listing}
-use borrow.Author.Rules.{rules}
 use Rattle.names.proofs.dir_if.Goals as goal
 
 pub returns-then-d-ne1 : goal.returns-then-d-ne1

@@ -3,7 +3,6 @@ use native.Mathlib.Omega.{arith}
 use Rattle.base.specs.Decide.{not_so, no_by, yes_by}
 use Rattle.reads.specs.Read.{is_to}
 use Rattle.names.specs.Names.{dir_self, dir_entries, dots-at}
-use borrow.Author.Rules.{rules}
 use Rattle.names.proofs.dir_ok.Goals as goal
 
 pub spot-a-requires : goal.spot-a-requires

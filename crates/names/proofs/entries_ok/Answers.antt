@@ -1,12 +1,8 @@
 -- entries_ok: all entries below k pass.
-use Prim.Native.Nat.{ℕ, ◌<◌, ◌≤◌, ◌-◌}
+use Prim.Native.Nat.{◌-◌}
 use native.Mathlib.Omega.{arith}
 use borrow.Author.Count.{below_more}
-use Rattle.base.specs.Bytes.{bytes}
 use Rattle.base.specs.Decide.{so, not_so, no_by, yes_by}
-use Rattle.superblock.specs.Disk.{disk}
-use Rattle.rules.specs.Tree.{tree}
-use Rattle.names.specs.Names.{EntryOk}
 use borrow.Author.Rules.{rules}
 use Rattle.names.proofs.entries_ok.Goals as goal
 

@@ -3,7 +3,6 @@ use native.Mathlib.Omega.{arith}
 use Rattle.base.specs.Decide.{no_by, yes_by}
 use Rattle.reads.specs.Read.{is_to}
 use Rattle.names.specs.Names.{entry_free, entry_twice, entry-dots, entry_dead, entry_name, good_at}
-use borrow.Author.Rules.{rules}
 use Rattle.names.proofs.entry_ok.Goals as goal
 
 pub spot-a-requires : goal.spot-a-requires

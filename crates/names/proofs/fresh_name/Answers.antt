@@ -1,12 +1,8 @@
 -- fresh_name: all entries below l differ.
-use Prim.Native.Nat.{ℕ, ◌<◌, ◌≤◌, ◌-◌}
+use Prim.Native.Nat.{◌-◌}
 use native.Mathlib.Omega.{arith}
 use borrow.Author.Count.{below_more}
-use Rattle.base.specs.Bytes.{bytes}
 use Rattle.base.specs.Decide.{so, not_so, no_by, yes_by}
-use mathlib.Core.Logic.{◌≢◌}
-use Rattle.superblock.specs.Disk.{disk}
-use Rattle.rules.specs.Tree.{num_of, name_of, SameName}
 use Rattle.names.specs.Names.{differs_to, differs_from}
 use borrow.Author.Rules.{rules}
 use Rattle.names.proofs.fresh_name.Goals as goal

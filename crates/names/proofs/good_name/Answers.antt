@@ -1,10 +1,8 @@
 -- good_name: all bytes below t pass.
-use Prim.Native.Nat.{ℕ, ◌<◌, ◌≤◌, ◌-◌}
+use Prim.Native.Nat.{◌-◌}
 use native.Mathlib.Omega.{arith}
 use borrow.Author.Count.{below_more}
-use Rattle.base.specs.Bytes.{bytes}
 use Rattle.base.specs.Decide.{so, not_so, no_by, yes_by}
-use Rattle.names.specs.Names.{LetterOk, name_at}
 use borrow.Author.Rules.{rules}
 use Rattle.names.proofs.good_name.Goals as goal
 

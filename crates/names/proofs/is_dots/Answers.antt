@@ -1,11 +1,9 @@
 -- is_dots: the first t bytes agree.
-use Prim.Native.Nat.{ℕ, ◌<◌, ◌≤◌, ◌-◌, ◌+◌}
+use Prim.Native.Nat.{◌-◌}
 use native.Mathlib.Omega.{arith}
-use mathlib.Core.Path.{◌≡◌, sym, ◌∙◌}
+use mathlib.Core.Path.{sym, ◌∙◌}
 use borrow.Author.Count.{below_more}
-use Rattle.base.specs.Bytes.{bytes}
 use Rattle.base.specs.Decide.{so, not_so}
-use Rattle.rules.specs.Tree.{dots}
 use borrow.Author.Rules.{rules}
 use Rattle.names.proofs.is_dots.Goals as goal
 

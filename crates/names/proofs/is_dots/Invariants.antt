@@ -1,12 +1,8 @@
 -- is_dots: the first t bytes agree.
 use Prim.Native.Nat.{ℕ, ◌<◌, ◌≤◌, ◌-◌, ◌+◌}
-use native.Mathlib.Omega.{arith}
-use mathlib.Core.Path.{◌≡◌, sym, ◌∙◌}
-use borrow.Author.Count.{below_more}
+use mathlib.Core.Path.{◌≡◌}
 use Rattle.base.specs.Bytes.{bytes}
-use Rattle.base.specs.Decide.{so, not_so}
 use Rattle.rules.specs.Tree.{dots}
-use borrow.Author.Rules.{rules}
 use Rattle.names.proofs.is_dots.Given as goal
 
 abbrev pub invariant-loop-t : goal.invariant-loop-t

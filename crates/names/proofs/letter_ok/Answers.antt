@@ -2,7 +2,6 @@
 use Rattle.base.specs.Decide.{ne_decides}
 use Rattle.base.specs.Bytes.{bytes}
 use Rattle.names.specs.Names.{letter_slash, letter_zero, letter_first, letter_next, name_at}
-use borrow.Author.Rules.{rules}
 use Rattle.names.proofs.letter_ok.Goals as goal
 
 pub returns-then-x-eq47 : goal.returns-then-x-eq47

@@ -1,13 +1,8 @@
 -- s5: all inodes below i pass.
-use Prim.Native.Nat.{ℕ, ◌<◌, ◌≤◌, ◌-◌}
+use Prim.Native.Nat.{◌-◌}
 use native.Mathlib.Omega.{arith}
-use mathlib.Core.Path.{◌≡◌}
 use borrow.Author.Count.{below_more}
-use Rattle.base.specs.Bytes.{bytes}
 use Rattle.base.specs.Decide.{so, not_so, no_by, yes_by}
-use Rattle.superblock.specs.Disk.{disk}
-use Rattle.rules.specs.Tree.{tree}
-use Rattle.rules.specs.Rules.{Dir}
 use Rattle.names.specs.Names.{s5_to}
 use borrow.Author.Rules.{rules}
 use Rattle.names.proofs.s5.Goals as goal

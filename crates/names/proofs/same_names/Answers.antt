@@ -1,9 +1,8 @@
 -- same_names: the first t bytes agree.
-use Prim.Native.Nat.{ℕ, ◌<◌, ◌≤◌, ◌-◌, ◌+◌}
+use Prim.Native.Nat.{◌-◌}
 use native.Mathlib.Omega.{arith}
-use mathlib.Core.Path.{◌≡◌, sym, ◌∙◌}
+use mathlib.Core.Path.{sym, ◌∙◌}
 use borrow.Author.Count.{below_more}
-use Rattle.base.specs.Bytes.{bytes}
 use Rattle.base.specs.Decide.{so, not_so}
 use borrow.Author.Rules.{rules}
 use Rattle.names.proofs.same_names.Goals as goal

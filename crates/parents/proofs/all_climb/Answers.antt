@@ -1,12 +1,8 @@
 -- all_climb: all inodes below i pass.
-use Prim.Native.Nat.{ℕ, ◌<◌, ◌≤◌, ◌-◌}
+use Prim.Native.Nat.{◌-◌}
 use native.Mathlib.Omega.{arith}
-use mathlib.Core.Path.{◌≡◌}
 use borrow.Author.Count.{below_more}
-use Rattle.base.specs.Bytes.{bytes}
 use Rattle.base.specs.Decide.{so, not_so, no_by, yes_by}
-use Rattle.superblock.specs.Disk.{disk}
-use Rattle.rules.specs.Tree.{tree, Reaches}
 use borrow.Author.Rules.{rules}
 use Rattle.parents.proofs.all_climb.Goals as goal
 

@@ -1,13 +1,9 @@
 -- all_once: all inodes below i pass.
 use Prim.Native.Nat.{ℕ, ◌<◌, ◌≤◌, ◌-◌}
-use native.Mathlib.Omega.{arith}
-use borrow.Author.Count.{below_more}
 use Rattle.base.specs.Bytes.{bytes}
-use Rattle.base.specs.Decide.{so, not_so, no_by, yes_by}
 use Rattle.superblock.specs.Disk.{disk}
 use Rattle.rules.specs.Tree.{tree}
 use Rattle.parents.specs.Climb.{Once}
-use borrow.Author.Rules.{rules}
 use Rattle.parents.proofs.all_once.Given as goal
 
 abbrev pub invariant-loop-i : goal.invariant-loop-i

@@ -1,7 +1,7 @@
 -- climbs: x is what n steps up give; the pigeonhole ends the walk (`climb_end`).
-use Prim.Native.Nat.{◌≤◌, ◌-◌}
+use Prim.Native.Nat.{◌-◌}
 use native.Mathlib.Omega.{arith}
-use mathlib.Core.Path.{◌≡◌, refl, ap, sym, ◌∙◌}
+use mathlib.Core.Path.{refl, ap, sym, ◌∙◌}
 use Rattle.base.specs.Bytes.{bytes}
 use Rattle.base.specs.Decide.{so, eq_decides}
 use Rattle.superblock.specs.Disk.{disk}

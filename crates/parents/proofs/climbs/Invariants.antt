@@ -1,13 +1,9 @@
 -- climbs: x is what n steps up give; the pigeonhole ends the walk (`climb_end`).
 use Prim.Native.Nat.{◌≤◌, ◌-◌}
-use native.Mathlib.Omega.{arith}
-use mathlib.Core.Path.{◌≡◌, refl, ap, sym, ◌∙◌}
+use mathlib.Core.Path.{◌≡◌}
 use Rattle.base.specs.Bytes.{bytes}
-use Rattle.base.specs.Decide.{so, eq_decides}
 use Rattle.superblock.specs.Disk.{disk}
 use Rattle.rules.specs.Tree.{tree, up, follow}
-use Rattle.parents.specs.Climb.{up_more, climb_end}
-use borrow.Author.Rules.{rules}
 use Rattle.parents.proofs.climbs.Given as goal
 
 abbrev pub invariant-loop-n : goal.invariant-loop-n

@@ -1,7 +1,6 @@
 -- climbs_if: only a directory is asked.
 use mathlib.Core.Path.{sym, ◌∙◌}
 use Rattle.base.specs.Decide.{so, alike}
-use borrow.Author.Rules.{rules}
 use Rattle.parents.proofs.climbs_if.Goals as goal
 
 pub returns-then-d-ne1 : goal.returns-then-d-ne1

@@ -1,6 +1,5 @@
 -- dir_home: past the last entry nothing is asked.
 use Rattle.parents.specs.Climb.{row-all}
-use borrow.Author.Rules.{rules}
 use Rattle.parents.proofs.dir_home.Goals as goal
 
 pub row_home-requires : goal.row_home-requires

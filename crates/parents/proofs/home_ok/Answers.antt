@@ -1,7 +1,6 @@
 -- home_ok: by what the entry names.
 use Rattle.base.specs.Decide.{eq_decides}
 use Rattle.parents.specs.Climb.{home_file, home_root, home_here}
-use borrow.Author.Rules.{rules}
 use Rattle.parents.proofs.home_ok.Goals as goal
 
 pub returns-then-d-ne1 : goal.returns-then-d-ne1

@@ -2,7 +2,6 @@
 use Rattle.reads.specs.Read.{shown}
 use Rattle.base.specs.Decide.{eq_decides}
 use Rattle.parents.specs.Climb.{once_file, once_root, once_here}
-use borrow.Author.Rules.{rules}
 use Rattle.parents.proofs.once_ok.Goals as goal
 
 pub returns-then-d-ne1 : goal.returns-then-d-ne1

@@ -1,12 +1,9 @@
 -- row_home: all entries from 2 to k pass.
 use Prim.Native.Nat.{ℕ, ◌<◌, ◌≤◌, ◌-◌}
-use native.Mathlib.Omega.{arith}
 use Rattle.base.specs.Bytes.{bytes}
-use Rattle.base.specs.Decide.{so, not_so, no_by, yes_by}
 use Rattle.superblock.specs.Disk.{disk}
 use Rattle.rules.specs.Tree.{tree}
-use Rattle.parents.specs.Climb.{HomeOk, third_more}
-use borrow.Author.Rules.{rules}
+use Rattle.parents.specs.Climb.{HomeOk}
 use Rattle.parents.proofs.row_home.Given as goal
 
 abbrev pub invariant-loop-k : goal.invariant-loop-k

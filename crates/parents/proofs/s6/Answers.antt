@@ -3,7 +3,6 @@ use native.Mathlib.Omega.{arith}
 use mathlib.Core.Path.{sym, ◌∙◌}
 use Rattle.base.specs.Decide.{not_so, no_by, yes_by, alike}
 use Rattle.parents.specs.Climb.{is_once, is_home, stays, s6_to, s6_reaches}
-use borrow.Author.Rules.{rules}
 use Rattle.parents.proofs.s6.Goals as goal
 
 pub returns-then-u-ne1 : goal.returns-then-u-ne1

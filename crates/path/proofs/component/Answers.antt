@@ -1,12 +1,10 @@
 -- component: the two cases of part_of.
-use borrow.Author.Rules.{rules}
-use mathlib.Core.Path.{◌≡◌, refl, ap, sym, ◌∙◌}
+use mathlib.Core.Path.{◌≡◌, ap, sym, ◌∙◌}
 use native.Mathlib.Omega.{arith}
-use Prim.Native.Nat.{ℕ, ◌+◌, ◌*◌, ◌-◌, ◌<◌, ◌≤◌, ◌/◌, ◌%◌}
-use lib.ListN.{length, get_or, get_or-eq_default}
-use mathlib.Core.Bool.{Bool, true, false}
+use Prim.Native.Nat.{◌-◌}
+use mathlib.Core.Bool.{true, false}
 use Rattle.base.specs.Bytes.{bytes}
-use Rattle.path.specs.Parts.{start_of, end_of, part_of, part_end, part_name, start_le}
+use Rattle.path.specs.Parts.{start_of, end_of, part_end, part_name, start_le}
 use Rattle.path.proofs.component.Goals as goal
 
 pub returns-then-x-eq0 : goal.returns-then-x-eq0

@@ -1,8 +1,7 @@
 -- same_name: all bytes passed agree (Names.differs, Names.agrees).
-use mathlib.Core.Path.{◌≡◌, refl, ap, sym, ◌∙◌}
+use mathlib.Core.Path.{sym, ◌∙◌}
 use native.Mathlib.Omega.{arith}
-use Prim.Native.Nat.{ℕ, ◌+◌, ◌-◌, ◌<◌, ◌≤◌}
-use mathlib.Core.Bool.{not}
+use Prim.Native.Nat.{◌+◌, ◌-◌}
 use borrow.Author.Count.{below_more}
 use Rattle.base.specs.Bytes.{bytes}
 use Rattle.path.specs.Names.{differs, agrees}

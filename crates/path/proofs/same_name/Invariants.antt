@@ -1,12 +1,7 @@
 -- same_name: all bytes passed agree (Names.differs, Names.agrees).
-use mathlib.Core.Path.{◌≡◌, refl, ap, sym, ◌∙◌}
-use native.Mathlib.Omega.{arith}
+use mathlib.Core.Path.{◌≡◌}
 use Prim.Native.Nat.{ℕ, ◌+◌, ◌-◌, ◌<◌, ◌≤◌}
-use mathlib.Core.Bool.{not}
-use borrow.Author.Count.{below_more}
 use Rattle.base.specs.Bytes.{bytes}
-use Rattle.path.specs.Names.{differs, agrees}
-use borrow.Author.Rules.{rules}
 use Rattle.path.proofs.same_name.Given as goal
 
 abbrev pub invariant-loop-k : goal.invariant-loop-k

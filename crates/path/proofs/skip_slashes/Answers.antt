@@ -1,15 +1,13 @@
 -- skip_slashes: every byte passed is a slash; a search by `first`.
 use borrow.Author.Rules.{rules}
-use mathlib.Core.Path.{◌≡◌, refl, ap, sym, ◌∙◌}
+use mathlib.Core.Path.{◌≡◌, sym, ◌∙◌}
 use native.Mathlib.Omega.{arith}
-use Prim.Native.Nat.{ℕ, ◌+◌, ◌*◌, ◌-◌, ◌<◌, ◌≤◌, ◌/◌, ◌%◌}
-use lib.ListN.{length, get_or, get_or-eq_default}
-use mathlib.Core.Bool.{Bool, true, false}
-use Rattle.base.specs.Bytes.{bytes}
-use Rattle.path.specs.Parts.{other, ends, start_of, end_of, part_of, other_no, other_yes, ends_no, ends_slash, ends_nul}
-use Rattle.base.specs.First.{first, tabulate, tabulate_is, filled_more, first-at, first-none, from_at, from_none, first-le}
+use Prim.Native.Nat.{◌-◌}
+use lib.ListN.{length}
+use mathlib.Core.Bool.{true, false}
+use Rattle.path.specs.Parts.{start_of, other_no, other_yes}
+use Rattle.base.specs.First.{first-at, first-none}
 use borrow.Author.Count.{below_more}
-use borrow.Author.Tests.{eq-eqb, ne_eqb}
 use Rattle.path.proofs.skip_slashes.Goals as goal
 
 pub loop-i-init : goal.loop-i-init

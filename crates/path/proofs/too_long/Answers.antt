@@ -1,9 +1,8 @@
 -- too_long: no byte passed is 0; the first 0 below 129 denies, 129 bytes without one prove (Parts.long).
-use mathlib.Core.Path.{◌≡◌, refl, ap, sym, ◌∙◌}
+use mathlib.Core.Path.{◌∙◌}
 use native.Mathlib.Omega.{arith}
-use Prim.Native.Nat.{ℕ, ◌+◌, ◌-◌, ◌<◌, ◌≤◌}
+use Prim.Native.Nat.{◌-◌}
 use borrow.Author.Count.{below_more}
-use Rattle.base.specs.Bytes.{bytes}
 use Rattle.path.specs.Parts.{not_long, long}
 use borrow.Author.Rules.{rules}
 use Rattle.path.proofs.too_long.Goals as goal

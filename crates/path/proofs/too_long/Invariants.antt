@@ -1,11 +1,7 @@
 -- too_long: no byte passed is 0; the first 0 below 129 denies, 129 bytes without one prove (Parts.long).
-use mathlib.Core.Path.{◌≡◌, refl, ap, sym, ◌∙◌}
-use native.Mathlib.Omega.{arith}
-use Prim.Native.Nat.{ℕ, ◌+◌, ◌-◌, ◌<◌, ◌≤◌}
-use borrow.Author.Count.{below_more}
+use mathlib.Core.Path.{◌≡◌}
+use Prim.Native.Nat.{ℕ, ◌-◌, ◌<◌, ◌≤◌}
 use Rattle.base.specs.Bytes.{bytes}
-use Rattle.path.specs.Parts.{not_long, long}
-use borrow.Author.Rules.{rules}
 use Rattle.path.proofs.too_long.Given as goal
 
 abbrev pub invariant-loop-i : goal.invariant-loop-i

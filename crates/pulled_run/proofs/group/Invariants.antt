@@ -1,6 +1,5 @@
 -- `group` is safe and ends. Assumes nothing.
 use Prim.Native.Nat.{◌≤◌, ◌-◌}
-use borrow.Author.Rules.{rules}
 use Rattle.pulled_run.proofs.group.Given as goal
 
 abbrev pub invariant-loop-j : goal.invariant-loop-j

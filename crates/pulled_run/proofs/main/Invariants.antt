@@ -1,6 +1,5 @@
 -- `main` is safe and ends. Assumes nothing.
 use Prim.Native.Nat.{◌≤◌, ◌-◌}
-use borrow.Author.Rules.{rules}
 use Rattle.pulled_run.proofs.main.Given as goal
 
 abbrev pub invariant-loop-k : goal.invariant-loop-k

@@ -1,6 +1,5 @@
 -- addr: field4 at its place.
 use Rattle.reads.specs.Read.{is_to, field_addr}
-use borrow.Author.Rules.{rules}
 use Rattle.reads.proofs.addr.Goals as goal
 
 pub returns : goal.returns

@@ -2,7 +2,6 @@
 use Rattle.reads.specs.Read.{bit_is}
 use Rattle.base.specs.Bytes.{bytes}
 use native.Mathlib.Omega.{arith}
-use borrow.Author.Rules.{rules}
 use Rattle.reads.proofs.bit_of.Goals as goal
 
 pub returns : goal.returns

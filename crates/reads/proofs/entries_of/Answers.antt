@@ -1,6 +1,5 @@
 -- entries_of: none, or the size divided by 16.
 use Rattle.reads.specs.Read.{ends-none, ends-here}
-use borrow.Author.Rules.{rules}
 use Rattle.reads.proofs.entries_of.Goals as goal
 
 pub returns-then-d-ne1 : goal.returns-then-d-ne1

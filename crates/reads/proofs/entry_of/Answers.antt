@@ -1,7 +1,6 @@
 -- entry_of: 0 below the data area, where the Disk reads 0 too; else the four bytes there.
 use Rattle.reads.specs.Read.{entry_low, entry_high}
 use native.Mathlib.Omega.{arith}
-use borrow.Author.Rules.{rules}
 use Rattle.reads.proofs.entry_of.Goals as goal
 
 pub returns-then-b-start : goal.returns-then-b-start

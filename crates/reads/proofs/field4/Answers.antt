@@ -2,7 +2,6 @@
 use Rattle.reads.specs.Read.{field-none, field_past, field-here}
 use Rattle.base.specs.Bytes.{bytes}
 use native.Mathlib.Omega.{arith}
-use borrow.Author.Rules.{rules}
 use Rattle.reads.proofs.field4.Goals as goal
 
 pub returns-then-i-lt1 : goal.returns-then-i-lt1

@@ -1,6 +1,5 @@
 -- kind: field2 at 0.
 use Rattle.reads.specs.Read.{is_to, field_kind}
-use borrow.Author.Rules.{rules}
 use Rattle.reads.proofs.kind.Goals as goal
 
 pub returns : goal.returns

@@ -1,6 +1,5 @@
 -- nlink: field2 at 6.
 use Rattle.reads.specs.Read.{is_to, field_nlink}
-use borrow.Author.Rules.{rules}
 use Rattle.reads.proofs.nlink.Goals as goal
 
 pub returns : goal.returns

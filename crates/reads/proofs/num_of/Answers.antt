@@ -1,6 +1,5 @@
 -- num_of: 0 where there is no entry, else the number at its spot.
 use Rattle.reads.specs.Read.{num_other, num_past, num_here}
-use borrow.Author.Rules.{rules}
 use Rattle.reads.proofs.num_of.Goals as goal
 
 pub returns-then-d-ne1 : goal.returns-then-d-ne1

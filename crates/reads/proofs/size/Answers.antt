@@ -1,6 +1,5 @@
 -- size: field4 at 8.
 use Rattle.reads.specs.Read.{is_to, field_size}
-use borrow.Author.Rules.{rules}
 use Rattle.reads.proofs.size.Goals as goal
 
 pub returns : goal.returns

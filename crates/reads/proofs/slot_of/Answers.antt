@@ -1,6 +1,5 @@
 -- slot_of: a direct address, or an entry of the indirect block.
 use Rattle.reads.specs.Read.{slot_direct, slot-entry}
-use borrow.Author.Rules.{rules}
 use Rattle.reads.proofs.slot_of.Goals as goal
 
 pub returns-then-p-lt13 : goal.returns-then-p-lt13

@@ -1,6 +1,5 @@
 -- spot: the block of the slot and the byte in it, by `spot_is`.
 use Rattle.reads.specs.Read.{spot_is}
-use borrow.Author.Rules.{rules}
 use Rattle.reads.proofs.spot.Goals as goal
 
 pub returns : goal.returns

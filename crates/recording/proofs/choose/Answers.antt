@@ -1,6 +1,5 @@
 -- `recording::choose` meets its contract: the buffer that has the block, or the least recently released. Assumes nothing.
 use Rattle.recording.specs.Steps.{table_of, choose_own, choose_new}
-use borrow.Author.Rules.{rules}
 use Rattle.recording.proofs.choose.Goals as goal
 
 pub returns-then-f-lt30 : goal.returns-then-f-lt30

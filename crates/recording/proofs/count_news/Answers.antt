@@ -1,9 +1,7 @@
 -- `recording::count_news` meets its contract: the count of those passed. Assumes nothing.
 use native.Mathlib.Omega.{arith}
 use mathlib.Core.Path.{◌≡◌, sym, ◌∙◌}
-use Prim.Native.Nat.{◌-◌, ◌≤◌}
-use borrow.Author.Tests.{not-true, not-false}
-use Rattle.recording.specs.Record.{Counted}
+use Prim.Native.Nat.{◌-◌}
 use Rattle.recording.specs.Steps.{counted_none, counted_old, counted_new}
 use borrow.Author.Rules.{rules}
 use Rattle.recording.proofs.count_news.Goals as goal

@@ -3,7 +3,6 @@ use mathlib.Core.Path.{ap}
 use Prim.Native.Nat.{ℕ}
 use lib.Dec.{ltb}
 use Rattle.bio.specs.Among.{among}
-use borrow.Author.Rules.{rules}
 use Rattle.recording.proofs.is_recorded.Goals as goal
 
 pub returns : goal.returns

@@ -1,6 +1,5 @@
 -- `recording::put_u32_at` meets its contract: a change of the buffer is that change of what is seen. Assumes nothing.
 use Rattle.recording.specs.Store.{changed}
-use borrow.Author.Rules.{rules}
 use Rattle.recording.proofs.put_u32_at.Goals as goal
 
 pub returns : goal.returns

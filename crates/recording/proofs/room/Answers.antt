@@ -1,6 +1,5 @@
 -- `recording::room` meets its contract: the count, and its test. Assumes nothing.
 use Rattle.recording.specs.Steps.{room_decides}
-use borrow.Author.Rules.{rules}
 use Rattle.recording.proofs.room.Goals as goal
 
 pub returns : goal.returns

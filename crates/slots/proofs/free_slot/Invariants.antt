@@ -1,14 +1,9 @@
 -- `slots::free_slot` meets its contract: every slot that was passed is in use. Assumes nothing.
-use mathlib.Core.Path.{◌≡◌, sym, ◌∙◌}
+use mathlib.Core.Path.{◌≡◌}
 use mathlib.Core.Bool.{false}
 use lib.ListN.{get_or}
 use lib.Dec.{eqb}
 use Prim.Native.Nat.{ℕ, ◌-◌, ◌≤◌, ◌<◌}
-use native.Mathlib.Omega.{arith}
-use borrow.Author.Count.{below_more}
-use borrow.Author.Tests.{eq-eqb, ne_eqb}
-use borrow.Author.Rules.{rules}
-use Rattle.base.specs.First.{first-at, first-none}
 use Rattle.slots.specs.Handles.{free_slot}
 use Rattle.slots.proofs.free_slot.Given as goal
 

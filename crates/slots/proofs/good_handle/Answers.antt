@@ -1,6 +1,5 @@
 -- `slots::good_handle` meets its contract: each test that fails denies a field of `GoodHandle`. Assumes nothing.
 use native.Mathlib.Omega.{arith}
-use borrow.Author.Rules.{rules}
 use Rattle.base.specs.Decide.{not_so}
 use Rattle.slots.specs.Handles.{handle_last, handle_free}
 use Rattle.slots.proofs.good_handle.Goals as goal

@@ -1,6 +1,5 @@
 -- `slots::has_room` meets its contract. Assumes nothing.
 use native.Mathlib.Omega.{arith}
-use borrow.Author.Rules.{rules}
 use Rattle.base.specs.Decide.{not_so}
 use Rattle.slots.specs.Handles.{room_test}
 use Rattle.slots.proofs.has_room.Goals as goal

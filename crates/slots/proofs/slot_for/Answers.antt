@@ -1,5 +1,4 @@
 -- `slots::slot_for` meets its contract, by what its two searches ensure. Assumes nothing.
-use borrow.Author.Rules.{rules}
 use Rattle.slots.specs.Handles.{found-held, found_free}
 use Rattle.slots.proofs.slot_for.Goals as goal
 

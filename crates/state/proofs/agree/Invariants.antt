@@ -1,11 +1,7 @@
 -- `state::agree` meets its contract: the counts passed are the marks. Assumes nothing.
-use borrow.Author.Count.{below_more}
 use mathlib.Core.Path.{◌≡◌}
 use Prim.Native.Nat.{ℕ, ◌-◌, ◌≤◌, ◌<◌}
-use native.Mathlib.Omega.{arith}
 use lib.ListN.{get_or}
-use Rattle.base.specs.Decide.{so, not_so}
-use borrow.Author.Rules.{rules}
 use Rattle.state.proofs.agree.Given as goal
 
 abbrev pub invariant-loop-j : goal.invariant-loop-j

@@ -1,6 +1,5 @@
 -- `state::buffered` meets its contract: the three passes together. Assumes nothing.
 use Rattle.base.specs.Decide.{not_so, alike, no_by, yes_by}
-use borrow.Author.Tests.{not-false}
 use Rattle.state.specs.Marks.{is_found, is_agreed, is_buffered, zeros, zeros-long}
 use borrow.Author.Rules.{rules}
 use Rattle.state.proofs.buffered.Goals as goal

@@ -2,10 +2,10 @@
 use native.Mathlib.Omega.{arith}
 use borrow.Author.Count.{below_more}
 use mathlib.Core.Path.{◌≡◌}
-use Prim.Native.Nat.{◌-◌, ◌≤◌}
+use Prim.Native.Nat.{◌-◌}
 use lib.ListN.{get_or}
 use Rattle.base.specs.Decide.{so, not_so, no_by, yes_by}
-use Rattle.state.specs.Slots.{GoodSlot, GoodBelow}
+use Rattle.state.specs.Slots.{GoodSlot}
 use borrow.Author.Rules.{rules}
 use Rattle.state.proofs.good_below.Goals as goal
 use Rattle.state.proofs.good_below.Goals.{then-refs-k-ne0+else-not-good_slot, else-refs-k-ne0}

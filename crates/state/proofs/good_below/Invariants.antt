@@ -1,13 +1,6 @@
 -- `state::good_below` meets its contract: the slots in use that were passed are good. Assumes nothing.
-use native.Mathlib.Omega.{arith}
-use borrow.Author.Count.{below_more}
-use mathlib.Core.Logic.{⊎_elim}
-use mathlib.Core.Path.{◌≡◌}
 use Prim.Native.Nat.{◌-◌, ◌≤◌}
-use lib.ListN.{get_or}
-use Rattle.base.specs.Decide.{so, not_so, no_by, yes_by}
-use Rattle.state.specs.Slots.{GoodSlot, GoodBelow}
-use borrow.Author.Rules.{rules}
+use Rattle.state.specs.Slots.{GoodBelow}
 use Rattle.state.proofs.good_below.Given as goal
 
 abbrev pub invariant-loop-k : goal.invariant-loop-k

@@ -1,7 +1,6 @@
 -- `state::good_counts` meets its contract: its five tests. Assumes nothing.
 use native.Mathlib.Omega.{arith}
 use Rattle.base.specs.Decide.{so, not_so, alike, eq_decides}
-use borrow.Author.Rules.{rules}
 use Rattle.state.proofs.good_counts.Goals as goal
 
 pub returns-then-ops-gt2 : goal.returns-then-ops-gt2

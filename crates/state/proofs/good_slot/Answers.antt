@@ -2,7 +2,6 @@
 use native.Mathlib.Omega.{arith}
 use mathlib.Core.Path.{sym, ◌∙◌}
 use Rattle.base.specs.Decide.{not_so, alike, eq_decides}
-use borrow.Author.Rules.{rules}
 use Rattle.state.proofs.good_slot.Goals as goal
 
 pub returns-then-i-lt1 : goal.returns-then-i-lt1

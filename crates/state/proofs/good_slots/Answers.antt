@@ -1,6 +1,5 @@
 -- `state::good_slots` meets its contract: the first four decide where no later one is in use (`slots_few`), else all (`slots-all`). Assumes nothing.
 use Rattle.state.specs.Slots.{slots_few, slots-all}
-use borrow.Author.Rules.{rules}
 use Rattle.state.proofs.good_slots.Goals as goal
 
 pub returns-then-later_free : goal.returns-then-later_free

@@ -2,7 +2,6 @@
 use Prim.Native.Nat.{◌%◌}
 use native.Mathlib.Omega.{arith}
 use Rattle.state.specs.Marks.{holder_here, holder_found}
-use borrow.Author.Rules.{rules}
 use Rattle.state.proofs.holder.Goals as goal
 
 pub overflow_cast-j : goal.overflow_cast-j

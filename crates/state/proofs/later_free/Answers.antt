@@ -1,7 +1,7 @@
 -- `state::later_free` meets its contract: the bits of the counts passed, together (`Together`). Assumes nothing.
 use native.Mathlib.Omega.{arith}
-use Prim.Native.Nat.{◌-◌, ◌≤◌}
-use Rattle.state.specs.Slots.{Together, together_none, together_more, together_end}
+use Prim.Native.Nat.{◌-◌}
+use Rattle.state.specs.Slots.{together_none, together_more, together_end}
 use borrow.Author.Rules.{rules}
 use Rattle.state.proofs.later_free.Goals as goal
 

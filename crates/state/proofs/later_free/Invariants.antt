@@ -1,8 +1,6 @@
 -- `state::later_free` meets its contract: the bits of the counts passed, together (`Together`). Assumes nothing.
-use native.Mathlib.Omega.{arith}
 use Prim.Native.Nat.{◌-◌, ◌≤◌}
-use Rattle.state.specs.Slots.{Together, together_none, together_more, together_end}
-use borrow.Author.Rules.{rules}
+use Rattle.state.specs.Slots.{Together}
 use Rattle.state.proofs.later_free.Given as goal
 
 abbrev pub invariant-loop-k : goal.invariant-loop-k

@@ -1,11 +1,11 @@
 -- `state::mark_homes` meets its contract: the homes passed are good, and exactly their buffers are marked. Assumes nothing.
 use mathlib.Core.Path.{◌≡◌}
-use Prim.Native.Nat.{◌-◌, ◌≤◌}
+use Prim.Native.Nat.{◌-◌}
 use native.Mathlib.Omega.{arith}
-use lib.ListN.{length, length-set}
+use lib.ListN.{length-set}
 use Rattle.base.specs.Decide.{so, not_so, never}
 use Rattle.base.specs.Bytes.{bytes}
-use Rattle.state.specs.Marks.{Found, Marked, found_none, marked-none, found_more, marked_more, not_pinned, met_twice, not_held}
+use Rattle.state.specs.Marks.{found_none, marked-none, found_more, marked_more, not_pinned, met_twice, not_held}
 use borrow.Author.Rules.{rules}
 use Rattle.state.proofs.mark_homes.Goals as goal
 

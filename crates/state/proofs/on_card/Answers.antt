@@ -1,7 +1,6 @@
 -- `state::on_card` meets its contract: its three tests. Assumes nothing.
 use Rattle.base.specs.Decide.{not_so, alike, no_by, yes_by}
 use Rattle.state.specs.Card.{card-numbers, card-length, card-long, card_of, card-written}
-use borrow.Author.Rules.{rules}
 use Rattle.state.proofs.on_card.Goals as goal
 
 pub returns-then-not-good_numbers : goal.returns-then-not-good_numbers

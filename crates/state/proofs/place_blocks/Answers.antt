@@ -1,12 +1,11 @@
 -- `state::place_blocks` meets its contract: the buffers passed have distinct blocks, and each remainder has a mark. Assumes nothing.
 use mathlib.Core.Path.{◌≡◌}
-use Prim.Native.Nat.{◌-◌, ◌≤◌}
+use Prim.Native.Nat.{◌-◌}
 use native.Mathlib.Omega.{arith}
-use lib.ListN.{length, length-set}
+use lib.ListN.{length-set}
 use Rattle.base.specs.Decide.{so, not_so, never}
-use Rattle.base.specs.Bytes.{bytes}
 use Rattle.bio.specs.Among.{distinct_not}
-use Rattle.state.specs.Marks.{Placed, placed_none, placed_high, placed_new, placed_more, found_yes, found_no}
+use Rattle.state.specs.Marks.{placed_none, placed_high, placed_new, placed_more, found_yes, found_no}
 use borrow.Author.Rules.{rules}
 use Rattle.state.proofs.place_blocks.Goals as goal
 use Rattle.state.proofs.place_blocks.Goals.{then-b-size, then-places-at-ne0+else-find-j, else-places-at-ne0, else-b-size}

@@ -1,7 +1,6 @@
 -- `state::same_numbers` meets its contract: its eight tests. Assumes nothing.
 use mathlib.Core.Path.{sym, ◌∙◌}
 use Rattle.base.specs.Decide.{not_so, alike, eq_decides}
-use borrow.Author.Rules.{rules}
 use Rattle.state.proofs.same_numbers.Goals as goal
 
 pub returns-then-read_u32-ne270544960 : goal.returns-then-read_u32-ne270544960

@@ -2,10 +2,10 @@
 use borrow.Author.Count.{below_more}
 use mathlib.Core.Path.{◌≡◌, sym, ◌∙◌}
 use mathlib.Core.Bool.{false}
-use Prim.Native.Nat.{ℕ, ◌-◌, ◌≤◌, ◌<◌}
+use Prim.Native.Nat.{◌-◌}
 use native.Mathlib.Omega.{arith}
 use Rattle.base.specs.First.{first-at, first-none}
-use Rattle.state.specs.Slots.{uses, slot_of, slot-found, slot_free, slot-other}
+use Rattle.state.specs.Slots.{slot_of, slot-found, slot_free, slot-other}
 use borrow.Author.Rules.{rules}
 use Rattle.state.proofs.slot_of.Goals as goal
 use Rattle.state.proofs.slot_of.Goals.{then-refs-k-ne0+else-inums-k, else-refs-k-ne0}

@@ -1,13 +1,8 @@
 -- `state::slot_of` meets its contract: a search, by `first`. Assumes nothing.
-use borrow.Author.Count.{below_more}
-use mathlib.Core.Logic.{⊎_elim}
-use mathlib.Core.Path.{◌≡◌, sym, ◌∙◌}
+use mathlib.Core.Path.{◌≡◌}
 use mathlib.Core.Bool.{false}
 use Prim.Native.Nat.{ℕ, ◌-◌, ◌≤◌, ◌<◌}
-use native.Mathlib.Omega.{arith}
-use Rattle.base.specs.First.{first-at, first-none}
-use Rattle.state.specs.Slots.{uses, slot_of, slot-found, slot_free, slot-other}
-use borrow.Author.Rules.{rules}
+use Rattle.state.specs.Slots.{uses, slot_of}
 use Rattle.state.proofs.slot_of.Given as goal
 
 abbrev pub invariant-loop-k : goal.invariant-loop-k

@@ -1,8 +1,6 @@
 -- `superblock::addrs_of` meets its contract: the loop has filled the first p addresses as they stand on the card (`filled_more`).
-use Prim.Native.Nat.{ℕ, ◌+◌, ◌*◌, ◌-◌, ◌<◌, ◌≤◌}
-use mathlib.Core.Path.{◌≡◌}
+use Prim.Native.Nat.{◌+◌, ◌*◌}
 use native.Mathlib.Omega.{arith}
-use lib.ListN.{length, get_or}
 use Rattle.base.specs.Bytes.{bytes}
 use Rattle.base.specs.Number.{get}
 use Rattle.base.specs.First.{tabulate_is, filled_more}

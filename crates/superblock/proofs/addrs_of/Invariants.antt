@@ -1,12 +1,9 @@
 -- `superblock::addrs_of` meets its contract: the loop has filled the first p addresses as they stand on the card (`filled_more`).
 use Prim.Native.Nat.{ℕ, ◌+◌, ◌*◌, ◌-◌, ◌<◌, ◌≤◌}
 use mathlib.Core.Path.{◌≡◌}
-use native.Mathlib.Omega.{arith}
 use lib.ListN.{length, get_or}
 use Rattle.base.specs.Bytes.{bytes}
 use Rattle.base.specs.Number.{get}
-use Rattle.base.specs.First.{tabulate_is, filled_more}
-use borrow.Author.Rules.{rules}
 use Rattle.superblock.proofs.addrs_of.Given as goal
 
 abbrev pub invariant-loop-p : goal.invariant-loop-p

@@ -1,6 +1,5 @@
 -- `superblock::entry_of` meets its contract: the part from a on is read field by field (`entry_read_at`).
 use Rattle.superblock.specs.Entry.{entry_read_at}
-use borrow.Author.Rules.{rules}
 use Rattle.superblock.proofs.entry_of.Goals as goal
 
 pub returns : goal.returns

@@ -7,7 +7,6 @@ use Rattle.superblock.specs.Geometry.{Super, super_of}
 use mathlib.Core.Path.{◌≡◌, ap, sym, ◌∙◌}
 use Rattle.base.specs.Decide.{not_so, alike, no_by, yes_by, eq_decides}
 use Rattle.superblock.specs.Geometry.{GoodNumbers}
-use borrow.Author.Rules.{rules}
 use Rattle.superblock.proofs.good.Goals as goal
 
 pub returns-then-get_u32-ne270544960 : goal.returns-then-get_u32-ne270544960

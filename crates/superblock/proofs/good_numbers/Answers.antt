@@ -1,7 +1,6 @@
 -- `superblock::good_numbers` meets its contract: a limit that is broken refutes its field, and `laid` decides what is left.
 use native.Mathlib.Omega.{arith}
 use Rattle.base.specs.Decide.{not_so, alike}
-use borrow.Author.Rules.{rules}
 use Rattle.superblock.proofs.good_numbers.Goals as goal
 
 pub returns-then-s-lt12 : goal.returns-then-s-lt12

@@ -1,6 +1,5 @@
 -- `superblock::inode_of` meets its contract: the part from a on is read field by field (`read_at`).
 use Rattle.superblock.specs.Record.{read_at}
-use borrow.Author.Rules.{rules}
 use Rattle.superblock.proofs.inode_of.Goals as goal
 
 pub returns : goal.returns

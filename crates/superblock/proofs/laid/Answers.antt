@@ -3,7 +3,6 @@ use Prim.Native.Nat.{◌+◌, ◌-◌, ◌/◌}
 use mathlib.Core.Path.{◌≡◌}
 use native.Mathlib.Omega.{arith}
 use Rattle.base.specs.Decide.{not_so, alike, eq_decides}
-use borrow.Author.Rules.{rules}
 use Rattle.superblock.proofs.laid.Goals as goal
 
 pub returns-then-s : goal.returns-then-s

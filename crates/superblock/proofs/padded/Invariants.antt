@@ -1,12 +1,8 @@
 -- `superblock::padded` meets its contract: the loop has filled the first k bytes of the name (`filled_more`).
 use Prim.Native.Nat.{ℕ, ◌-◌, ◌<◌, ◌≤◌}
 use mathlib.Core.Path.{◌≡◌}
-use native.Mathlib.Omega.{arith}
 use lib.ListN.{length, get_or}
 use Rattle.base.specs.Bytes.{bytes}
-use Rattle.base.specs.First.{tabulate_is, filled_more}
-use Rattle.superblock.specs.Entry.{padded}
-use borrow.Author.Rules.{rules}
 use Rattle.superblock.proofs.padded.Given as goal
 
 abbrev pub invariant-loop-k : goal.invariant-loop-k

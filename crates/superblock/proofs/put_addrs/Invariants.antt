@@ -1,12 +1,9 @@
 -- `superblock::put_addrs` meets its contract: the loop has put the first p addresses (`addrs_more`).
 use Prim.Native.Nat.{◌+◌, ◌*◌, ◌-◌, ◌≤◌}
-use mathlib.Core.Path.{◌≡◌, refl, sym}
-use native.Mathlib.Omega.{arith}
+use mathlib.Core.Path.{◌≡◌}
 use lib.ListN.{length}
-use Rattle.base.specs.Bytes.{bytes, put, put-none}
+use Rattle.base.specs.Bytes.{bytes, put}
 use Rattle.superblock.specs.Node.{addr_bytes}
-use Rattle.superblock.specs.Record.{addrs_more}
-use borrow.Author.Rules.{rules}
 use Rattle.superblock.proofs.put_addrs.Given as goal
 
 abbrev pub invariant-loop-p : goal.invariant-loop-p

@@ -1,7 +1,6 @@
 -- `superblock::put_entry` meets its contract: the two stores make up the 16 bytes (`entry-written`).
 use mathlib.Core.Path.{◌∙◌}
 use Rattle.superblock.specs.Entry.{entry-written}
-use borrow.Author.Rules.{rules}
 use Rattle.superblock.proofs.put_entry.Goals as goal
 
 pub returns : goal.returns

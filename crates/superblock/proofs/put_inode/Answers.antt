@@ -1,7 +1,6 @@
 -- `superblock::put_inode` meets its contract: the six stores make up the 64 bytes (`written`).
 use mathlib.Core.Path.{◌∙◌}
 use Rattle.superblock.specs.Record.{written}
-use borrow.Author.Rules.{rules}
 use Rattle.superblock.proofs.put_inode.Goals as goal
 
 pub returns : goal.returns

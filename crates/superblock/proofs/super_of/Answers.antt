@@ -1,5 +1,4 @@
 -- `superblock::super_of` meets its contract: each number is what `get_u32` reads at its place.
-use borrow.Author.Rules.{rules}
 use Rattle.superblock.proofs.super_of.Goals as goal
 
 pub returns : goal.returns

@@ -3,7 +3,6 @@ use mathlib.Core.Path.{refl}
 use mathlib.Core.Logic.{inl, inr}
 use native.Mathlib.Omega.{arith}
 use Rattle.base.specs.Decide.{no_by, yes_by}
-use borrow.Author.Rules.{rules}
 use Rattle.transactions.proofs.begin.Goals as goal
 
 pub returns-then-not-whole : goal.returns-then-not-whole

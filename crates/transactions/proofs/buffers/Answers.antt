@@ -1,11 +1,10 @@
 -- `buffers` meets its contract: the first i buffers are those of their homes. Assumes nothing.
-use mathlib.Core.Path.{◌≡◌, refl}
-use Prim.Native.Nat.{ℕ, ◌≤◌, ◌<◌, ◌-◌}
+use mathlib.Core.Path.{refl}
+use Prim.Native.Nat.{◌-◌}
 use native.Mathlib.Omega.{arith}
-use lib.ListN.{length, get_or, length-set}
+use lib.ListN.{get_or, length-set}
 use Rattle.bio.specs.Seen.{buffer_of}
 use Rattle.base.specs.First.{filled_more}
-use borrow.Author.Rules.{rules}
 use Rattle.transactions.proofs.buffers.Goals as goal
 
 pub loop-i-init : goal.loop-i-init

@@ -1,11 +1,8 @@
 -- `buffers` meets its contract: the first i buffers are those of their homes. Assumes nothing.
-use mathlib.Core.Path.{◌≡◌, refl}
+use mathlib.Core.Path.{◌≡◌}
 use Prim.Native.Nat.{ℕ, ◌≤◌, ◌<◌, ◌-◌}
-use native.Mathlib.Omega.{arith}
-use lib.ListN.{length, get_or, length-set}
+use lib.ListN.{length, get_or}
 use Rattle.bio.specs.Seen.{buffer_of}
-use Rattle.base.specs.First.{filled_more}
-use borrow.Author.Rules.{rules}
 use Rattle.transactions.proofs.buffers.Given as goal
 
 abbrev pub invariant-loop-i : goal.invariant-loop-i

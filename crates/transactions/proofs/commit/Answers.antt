@@ -2,7 +2,6 @@
 use native.Mathlib.Omega.{arith}
 use Rattle.transactions.specs.Recorded.{recorded_ready}
 use Rattle.transactions.specs.Turns.{commit-cut, commit_whole}
-use borrow.Author.Rules.{rules}
 use Rattle.transactions.proofs.commit.Goals as goal
 
 pub buffers-bufs-requires : goal.buffers-bufs-requires

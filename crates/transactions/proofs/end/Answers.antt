@@ -4,7 +4,6 @@ use mathlib.Core.Logic.{inl, inr}
 use native.Mathlib.Omega.{arith}
 use Rattle.base.specs.Decide.{no_by, yes_by}
 use Rattle.transactions.specs.Turns.{left-refused, closed, ended_last}
-use borrow.Author.Rules.{rules}
 use Rattle.transactions.proofs.end.Goals as goal
 
 pub returns-then-not-whole : goal.returns-then-not-whole

@@ -2,7 +2,6 @@
 use mathlib.Core.Path.{refl}
 use Rattle.base.specs.First.{tabulate}
 use Rattle.transactions.specs.Calls.{idle}
-use borrow.Author.Rules.{rules}
 use Rattle.transactions.proofs.idle.Goals as goal
 
 pub returns : goal.returns

@@ -3,7 +3,6 @@ use Rattle.transactions.specs.Turns.{left-refused}
 use mathlib.Core.Logic.{inl, inr}
 use native.Mathlib.Omega.{arith}
 use Rattle.base.specs.Decide.{no_by, yes_by}
-use borrow.Author.Rules.{rules}
 use Rattle.transactions.proofs.mount.Goals as goal
 
 pub returns-then-cache-ne30720 : goal.returns-then-cache-ne30720

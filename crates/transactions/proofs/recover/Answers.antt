@@ -5,7 +5,6 @@ use Rattle.base.specs.Bytes.{bytes}
 use Rattle.card_log.specs.Journal.{logged}
 use Rattle.card_log.specs.Headers.{log_length}
 use Rattle.transactions.specs.Turns.{can_recover, recover-cut, recover_done}
-use borrow.Author.Rules.{rules}
 use Rattle.transactions.proofs.recover.Goals as goal
 
 pub recover-w-requires : goal.recover-w-requires

@@ -2,7 +2,6 @@
 use native.Mathlib.Omega.{arith}
 use mathlib.Core.Path.{ap}
 use mathlib.Core.Logic.{inl, inr}
-use borrow.Author.Rules.{rules}
 use Rattle.base.specs.Decide.{no_by, yes_by}
 use Rattle.volume.specs.Close.{close_left}
 use Rattle.volume.specs.Inside.{handle_count, close_done}

@@ -2,7 +2,6 @@
 use native.Mathlib.Omega.{arith}
 use mathlib.Core.Path.{ap}
 use mathlib.Core.Logic.{inl, inr}
-use borrow.Author.Rules.{rules}
 use Rattle.volume.specs.Opens.{start_from, count_most, came, open_stopped, open_full, open_told}
 use Rattle.base.specs.Decide.{no_by, yes_by}
 use Rattle.volume.specs.Open.{open_left}

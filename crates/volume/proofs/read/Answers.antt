@@ -1,7 +1,6 @@
 -- `volume::read` meets its contract: each answer is a row, or `read_told`. Assumes nothing.
 use native.Mathlib.Omega.{arith}
 use mathlib.Core.Logic.{inl, inr}
-use borrow.Author.Rules.{rules}
 use Rattle.volume.specs.Inside.{numbers, lent, handle_from, not_below, read_unfit, read_device, read_past}
 use Rattle.volume.proofs.ReadTold.{read_told}
 use Rattle.base.specs.Decide.{no_by, yes_by}

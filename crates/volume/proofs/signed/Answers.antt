@@ -1,5 +1,4 @@
 -- `volume::signed` meets its contract, by the laws of specs/Signed. Assumes nothing.
-use borrow.Author.Rules.{rules}
 use Rattle.volume.specs.Signed.{signed_pos, signed_fits, signed_neg}
 use Rattle.volume.proofs.signed.Goals as goal
 

@@ -1,5 +1,4 @@
 -- `volume::start` meets its contract. Assumes nothing.
-use borrow.Author.Rules.{rules}
 use Rattle.volume.specs.Opens.{origin-root, origin_handle}
 use Rattle.volume.proofs.start.Goals as goal
 

@@ -1,5 +1,4 @@
 -- `volume::starts` meets its contract. Assumes nothing.
-use borrow.Author.Rules.{rules}
 use Rattle.volume.specs.Opens.{starts_root, starts_handle}
 use Rattle.volume.proofs.starts.Goals as goal
 

@@ -1,7 +1,6 @@
 -- `volume::stat` meets its contract: each answer is a row, or `stat_told`. Assumes nothing.
 use mathlib.Core.Path.{ap}
 use mathlib.Core.Logic.{inl, inr}
-use borrow.Author.Rules.{rules}
 use Rattle.volume.specs.Signed.{stored}
 use Rattle.volume.specs.Inside.{numbers, lent, handle_from, stat_unfit, stat_told}
 use Rattle.base.specs.Decide.{no_by, yes_by}

@@ -2,12 +2,10 @@
 use mathlib.Core.Path.{refl, sym, ◌∙◌}
 use native.Mathlib.Omega.{arith}
 use Prim.Native.Nat.{◌-◌}
-use borrow.Author.Tests.{not-true, not-false}
 use Rattle.base.specs.Decide.{yes_by}
 use Rattle.inode.specs.Fetch.{fetched}
 use Rattle.path.specs.Parts.{part_within}
 use Rattle.walk.specs.Step.{step_unfit, step_end, step_no_directory, step_missing, step_to, step_outside}
-use borrow.Author.Rules.{rules}
 use Rattle.walk.proofs.advance.Goals as goal
 
 pub read_inode-f-requires : goal.read_inode-f-requires

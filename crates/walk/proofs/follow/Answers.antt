@@ -1,11 +1,10 @@
 -- follow: the walk from where it stands is the walk asked for; Walks has a law for each turn. Each step takes a byte of the path.
-use mathlib.Core.Path.{◌≡◌, refl, sym, ◌∙◌}
+use mathlib.Core.Path.{refl, sym, ◌∙◌}
 use native.Mathlib.Omega.{arith}
-use Prim.Native.Nat.{◌-◌, ◌≤◌}
+use Prim.Native.Nat.{◌-◌}
 use lib.ListN.{length, drop, length-take, length-drop}
-use Rattle.inode.specs.Lent.{disk_seen}
-use Rattle.walk.specs.Step.{From, step_led}
-use Rattle.walk.specs.Walks.{walk_of, walk_to, walk_stay, walk_no}
+use Rattle.walk.specs.Step.{step_led}
+use Rattle.walk.specs.Walks.{walk_to, walk_stay, walk_no}
 use borrow.Author.Rules.{rules}
 use Rattle.walk.proofs.follow.Goals as goal
 

@@ -1,12 +1,10 @@
 -- follow: the walk from where it stands is the walk asked for; Walks has a law for each turn. Each step takes a byte of the path.
-use mathlib.Core.Path.{◌≡◌, refl, sym, ◌∙◌}
-use native.Mathlib.Omega.{arith}
+use mathlib.Core.Path.{◌≡◌}
 use Prim.Native.Nat.{◌-◌, ◌≤◌}
-use lib.ListN.{length, drop, length-take, length-drop}
+use lib.ListN.{length, drop}
 use Rattle.inode.specs.Lent.{disk_seen}
-use Rattle.walk.specs.Step.{From, step_led}
-use Rattle.walk.specs.Walks.{walk_of, walk_to, walk_stay, walk_no}
-use borrow.Author.Rules.{rules}
+use Rattle.walk.specs.Step.{From}
+use Rattle.walk.specs.Walks.{walk_of}
 use Rattle.walk.proofs.follow.Given as goal
 
 abbrev pub invariant-loop-inum : goal.invariant-loop-inum

@@ -1,6 +1,5 @@
 -- last_in: a law of Parents for each answer.
 use Prim.Native.Nat.{◌-◌}
-use borrow.Author.Tests.{not-true, not-false}
 use Rattle.inode.specs.Fetch.{fetched}
 use Rattle.walk.specs.Parents.{last_unfit, last_no_directory, last_there}
 use Rattle.walk.proofs.last_in.Goals as goal
