@@ -42,6 +42,30 @@ BY_HAND = {
     "onCard": "lies_on_card",
 }
 
+# both parts name a definition, some of them one of the unfinished writing side
+JOINED = {
+    "clear-and",
+    "front-named",
+    "full-bits",
+    "named-place",
+    "seen-taken",
+    "held-taken",
+    "get-full",
+    "block-full",
+    "entry-live",
+    "ones-full",
+    "block-taken",
+    "link-count",
+    "link-none",
+    "link-root",
+    "ends-stops",
+    "other-stops",
+    "place-back",
+    "padded-full",
+    "holds-settled",
+    "all-seven",
+}
+
 HEAD = re.compile(r"^(\s*)((?:(?:pub|unfoldable|abbrev|data|record)\s+)*)(" + WORD + r")\s*:(?!=)\s")
 
 
@@ -66,6 +90,8 @@ def snake(word):
 def respelled(name, definitions):
     if name in BY_HAND:
         return BY_HAND[name]
+    if name in JOINED:
+        return name
     if name[0].isupper():
         return name
     parts = name.split("-")

@@ -31,9 +31,9 @@ pub record Held (m : Bytes) (r : Node) : Type 0 where
   pub low : (p : ℕ) → p < slots r.size → slot m r p < 8192
   pub some : 12 < blocks r.size → r.addr 12 ≡ 0 → ⊥
 
--- slot p as the code reads it, a being the 13 addresses and t the indirect block
-unfoldable pub slot_by : List ℕ → Bytes → ℕ → ℕ
-slot_by a t p = cond (ltb p 13) (get_or a p 0) (get t (4 * (p - 13)) 4)
+-- slot p as the code reads it, t being the indirect block
+unfoldable pub slot_by : Inode → Bytes → ℕ → ℕ
+slot_by f t p = cond (ltb p 13) (get_or f.addrs p 0) (get t (4 * (p - 13)) 4)
 
 -- ---- for a fit inode
 
@@ -55,34 +55,34 @@ module _ (s : Super) (good : GoodNumbers s) (d : Bytes) (r : Node) (fit : Fit s 
 
 -- ---- as the code reads the slots
 
-module _ (a : List ℕ) (t : Bytes) (p : ℕ) where
-  pub by_direct : p < 13 → get_or a p 0 ≡ slot_by a t p
+module _ (f : Inode) (t : Bytes) (p : ℕ) where
+  pub by_direct : p < 13 → get_or f.addrs p 0 ≡ slot_by f t p
   unfolding slot_by
   by_direct h = rw (lt-ltb p 13 h)
 
-  pub by_listed : 13 ≤ p → get t (4 * (p - 13)) 4 ≡ slot_by a t p
+  pub by_listed : 13 ≤ p → get t (4 * (p - 13)) 4 ≡ slot_by f t p
   unfolding slot_by
   by_listed h = rw (le-ltb p 13 h)
 
-pub by_entry : (a : List ℕ) (t : Bytes) (k : ℕ) → get t (4 * k) 4 ≡ slot_by a t (13 + k)
-by_entry a t k = let z : 13 + k - 13 ≡ k = omega arith in rw z at (by_listed a t (13 + k) (omega arith))
+pub by_entry : (f : Inode) (t : Bytes) (k : ℕ) → get t (4 * k) 4 ≡ slot_by f t (13 + k)
+by_entry f t k = let z : 13 + k - 13 ≡ k = omega arith in rw z at (by_listed f t (13 + k) (omega arith))
 
 module _ (d : Bytes) (f : Inode) (held : Held d (node f)) (t : Bytes) (same : (i : ℕ) → i < 1024 → t i ≡ d (get_or f.addrs 12 0 * 1024 + i)) where
-  pub by_is : (p : ℕ) → p < slots f.size → slot_by f.addrs t p ≡ slot d (node f) p
+  pub by_is : (p : ℕ) → p < slots f.size → slot_by f t p ≡ slot d (node f) p
   by_is p h = elim (dec_lt p 13) [
-    | yes l ↦ sym (by_direct f.addrs t p l) ∙ sym (slot_direct (node f) d p l)
+    | yes l ↦ sym (by_direct f t p l) ∙ sym (slot_direct (node f) d p l)
     | no l ↦
         let z : p ≡ 13 + (p - 13) = omega arith in
-        sym (by_listed f.addrs t p (omega arith))
+        sym (by_listed f t p (omega arith))
         ∙ get_moved t d (get_or f.addrs 12 0 * 1024) 1024 same (4 * (p - 13)) 4 (omega (arith, held.size))
         ∙ sym (entry-some d (get_or f.addrs 12 0) (p - 13) (held.some (omega arith)))
         ∙ sym (ap (slot d (node f)) z ∙ slot-entry (node f) d (p - 13))
   ]
 
-  pub by_low : (n : ℕ) → n ≡ slots f.size → (p : ℕ) → p < n → slot_by f.addrs t p < 8192
+  pub by_low : (n : ℕ) → n ≡ slots f.size → (p : ℕ) → p < n → slot_by f t p < 8192
   by_low n e p h = rw (by_is p (omega arith)) (held.low p (omega arith))
 
-  pub by_apart : (n : ℕ) {b : Bool} → n ≡ slots f.size → Decides b (Once (slot_by f.addrs t) n) → Decides b (Apart d (node f))
+  pub by_apart : (n : ℕ) {b : Bool} → n ≡ slots f.size → Decides b (Once (slot_by f t) n) → Decides b (Apart d (node f))
   by_apart n e = alike
       (λ o. record { once = λ p q l k z. o.once p q (omega arith) (omega arith) (by_is p l ∙ z ∙ sym (by_is q k)) })
       (λ o. record { once = λ p q l k z. o.once p q (omega arith) (omega arith) (sym (by_is p (omega arith)) ∙ z ∙ by_is q (omega arith)) })
@@ -198,8 +198,8 @@ climbs_yes f n m g = record { once = λ _. g.once }
 pub climbed_as : (f : ℕ → ℕ) (n k m : ℕ) → n ≡ k → Climbed f n m → Climbed f k m
 climbed_as f n k m e g = rw e at g
 
-pub climbed_entry : (a : List ℕ) (t : Bytes) (k m b : ℕ) → Climbed (slot_by a t) (13 + k) m → b ≡ get t (4 * k) 4 → m < b → Climbed (slot_by a t) (13 + (k + 1)) b
-climbed_entry a t k m b g e h = climbed_as (slot_by a t) (13 + k + 1) (13 + (k + 1)) b (omega arith) (climbed_more (slot_by a t) (13 + k) m b g (e ∙ by_entry a t k) h)
+pub climbed_entry : (f : Inode) (t : Bytes) (k m b : ℕ) → Climbed (slot_by f t) (13 + k) m → b ≡ get t (4 * k) 4 → m < b → Climbed (slot_by f t) (13 + (k + 1)) b
+climbed_entry f t k m b g e h = climbed_as (slot_by f t) (13 + k + 1) (13 + (k + 1)) b (omega arith) (climbed_more (slot_by f t) (13 + k) m b g (e ∙ by_entry f t k) h)
 
-pub climbed_direct : (a : List ℕ) (t : Bytes) (p m b : ℕ) → Climbed (slot_by a t) p m → p < 13 → b ≡ get_or a p 0 → m < b → Climbed (slot_by a t) (p + 1) b
-climbed_direct a t p m b g l e h = climbed_more (slot_by a t) p m b g (e ∙ by_direct a t p l) h
+pub climbed_direct : (f : Inode) (t : Bytes) (p m b : ℕ) → Climbed (slot_by f t) p m → p < 13 → b ≡ get_or f.addrs p 0 → m < b → Climbed (slot_by f t) (p + 1) b
+climbed_direct f t p m b g l e h = climbed_more (slot_by f t) p m b g (e ∙ by_direct f t p l) h

@@ -10,22 +10,22 @@ ghost use Rattle.apart.specs.Apart.{Apart, Once, Held, Climbed, Climbs, slot_by}
 
 use superblock::Inode;
 
-// The block in slot p of an inode with these addresses, whose indirect block is table.
-pub fn slot_in(addrs: &[u32; 13], table: &[u8], p: usize) -> u32
+// The block in slot p of an inode whose indirect block is table.
+pub fn slot_in(f: Inode, table: &[u8], p: usize) -> u32
     requires { p < 269 }
-    ensures { result ≡ slot_by addrs.now (bytes table.now) p }
+    ensures { result ≡ slot_by f (bytes table.now) p }
 {
     if p < 13 {
-        return addrs[p];
+        return f.addrs[p];
     }
     base::get_u32(table, 4 * (p - 13))
 }
 
 // Whether its first n slots ascend, from 1 on: then they are distinct. So are those of a file that was written in order, and no mark is needed.
 // The slots up to 13 ascend to `low`; here are the entries of the indirect block.
-fn entries_ascend(addrs: &[u32; 13], table: &[u8], n: usize, low: u32) -> bool
-    requires { (n ≤ 269) × Climbed (slot_by addrs.now (bytes table.now)) (min n 13) low }
-    ensures { Climbs result (slot_by addrs.now (bytes table.now)) n }
+fn entries_ascend(f: Inode, table: &[u8], n: usize, low: u32) -> bool
+    requires { (n ≤ 269) × Climbed (slot_by f (bytes table.now)) (min n 13) low }
+    ensures { Climbs result (slot_by f (bytes table.now)) n }
 {
     if n <= 13 {
         return true;
@@ -47,33 +47,33 @@ fn entries_ascend(addrs: &[u32; 13], table: &[u8], n: usize, low: u32) -> bool
     true
 }
 
-fn ascends(addrs: &[u32; 13], table: &[u8], n: usize) -> bool
+fn ascends(f: Inode, table: &[u8], n: usize) -> bool
     requires { n ≤ 269 }
-    ensures { Climbs result (slot_by addrs.now (bytes table.now)) n }
+    ensures { Climbs result (slot_by f (bytes table.now)) n }
 {
     let m = base::smaller(n, 13);
     let mut last: u32 = 0;
     let mut p: usize = 0;
     while p < m {
-        let b = addrs[p];
+        let b = f.addrs[p];
         if b <= last {
             return false;
         }
         last = b;
         p += 1;
     }
-    entries_ascend(addrs, table, n, last)
+    entries_ascend(f, table, n, last)
 }
 
 // Whether its first n slots hold distinct blocks: a mark for each.
-fn unmarked(addrs: &[u32; 13], table: &[u8], n: usize) -> bool
-    requires { (n ≤ 269) × ((p : ℕ) → p < n → slot_by addrs.now (bytes table.now) p < 8192) }
-    ensures { Decides result (Once (slot_by addrs.now (bytes table.now)) n) }
+fn unmarked(f: Inode, table: &[u8], n: usize) -> bool
+    requires { (n ≤ 269) × ((p : ℕ) → p < n → slot_by f (bytes table.now) p < 8192) }
+    ensures { Decides result (Once (slot_by f (bytes table.now)) n) }
 {
     let mut marks = [0u8; 8192];
     let mut p: usize = 0;
     while p < n {
-        let b = base::place(slot_in(addrs, table, p));
+        let b = base::place(slot_in(f, table, p));
         if marks[b] != 0 {
             return false;
         }
@@ -84,14 +84,14 @@ fn unmarked(addrs: &[u32; 13], table: &[u8], n: usize) -> bool
 }
 
 // Whether its first n slots hold distinct blocks.
-pub fn once(addrs: &[u32; 13], table: &[u8], n: usize) -> bool
-    requires { (n ≤ 269) × ((p : ℕ) → p < n → slot_by addrs.now (bytes table.now) p < 8192) }
-    ensures { Decides result (Once (slot_by addrs.now (bytes table.now)) n) }
+pub fn once(f: Inode, table: &[u8], n: usize) -> bool
+    requires { (n ≤ 269) × ((p : ℕ) → p < n → slot_by f (bytes table.now) p < 8192) }
+    ensures { Decides result (Once (slot_by f (bytes table.now)) n) }
 {
-    if ascends(addrs, table, n) {
+    if ascends(f, table, n) {
         return true;
     }
-    unmarked(addrs, table, n)
+    unmarked(f, table, n)
 }
 
 // Whether an inode holds no block twice. Its slots in use hold block numbers below 8,192, as those of a fit inode do.
@@ -109,7 +109,7 @@ pub fn distinct<'a, 'b>(
     let b = f.addrs[12];
     let table = bio::block_in(blocks, counts, image, cache, b);
     if n <= 12 {
-        return once(&f.addrs, table, n);
+        return once(f, table, n);
     }
-    once(&f.addrs, table, n + 1)
+    once(f, table, n + 1)
 }

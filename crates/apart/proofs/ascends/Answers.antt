@@ -9,8 +9,8 @@ use Rattle.apart.proofs.ascends.Goals as goal
 pub loop-p-init : goal.loop-p-init
 loop-p-init c = (search rules, climbed_none _ _)
 
-pub bounds-addrs-p : goal.bounds-addrs-p
-bounds-addrs-p c = omega (arith, c.smaller-m.ensures, c.loop-p-test.true)
+pub bounds-f-p : goal.bounds-f-p
+bounds-f-p c = omega (arith, c.smaller-m.ensures, c.loop-p-test.true)
 
 pub returns-then-b-last : goal.returns-then-b-last
 returns-then-b-last c = climbs_no _ _

@@ -5,7 +5,7 @@ use Rattle.apart.specs.Apart.{slot_by, Climbed}
 use Rattle.apart.proofs.ascends.Given as goal
 
 abbrev pub invariant-loop-p : goal.invariant-loop-p
-invariant-loop-p l = (l.p ≤ l.m) × Climbed (slot_by l.addrs (bytes l.table)) l.p l.last
+invariant-loop-p l = (l.p ≤ l.m) × Climbed (slot_by l.f (bytes l.table)) l.p l.last
 
 abbrev pub decreases-loop-p : goal.decreases-loop-p
 decreases-loop-p l = l.m - l.p

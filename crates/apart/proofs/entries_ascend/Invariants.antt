@@ -5,7 +5,7 @@ use Rattle.apart.specs.Apart.{slot_by, Climbed}
 use Rattle.apart.proofs.entries_ascend.Given as goal
 
 abbrev pub invariant-loop-k : goal.invariant-loop-k
-invariant-loop-k l = (l.k ≤ l.m) × Climbed (slot_by l.addrs (bytes l.table)) (13 + l.k) l.last
+invariant-loop-k l = (l.k ≤ l.m) × Climbed (slot_by l.fn.f (bytes l.table)) (13 + l.k) l.last
 
 abbrev pub decreases-loop-k : goal.decreases-loop-k
 decreases-loop-k l = l.m - l.k

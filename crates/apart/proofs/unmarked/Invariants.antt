@@ -7,7 +7,7 @@ use Rattle.apart.specs.Apart.{slot_by, Marked}
 use Rattle.apart.proofs.unmarked.Given as goal
 
 abbrev pub invariant-loop-p : goal.invariant-loop-p
-invariant-loop-p l = (l.p ≤ l.n) × (length l.marks ≡ 8192) × Marked (bytes l.marks) (slot_by l.addrs (bytes l.table)) l.p
+invariant-loop-p l = (l.p ≤ l.n) × (length l.marks ≡ 8192) × Marked (bytes l.marks) (slot_by l.f (bytes l.table)) l.p
 
 abbrev pub decreases-loop-p : goal.decreases-loop-p
 decreases-loop-p l = l.n - l.p
