@@ -9,7 +9,7 @@ use Rattle.empty.specs.Emptying.{frees_all}
 use Rattle.empty.proofs.free_slots.Given as goal
 
 abbrev pub invariant-loop-p : goal.invariant-loop-p
-invariant-loop-p l = (l.p ≤ l.n) × (length l.cache ≡ 30720) × Becomes l.blocks l.counts (bytes l.initial.cache) (bytes l.cache) (λ d. frees_all l.s d (slot_by l.addrs (bytes l.table)) l.p)
+invariant-loop-p l = (l.p ≤ l.n) × (length l.cache ≡ 30720) × Becomes l.blocks l.counts (bytes l.initial.cache) (bytes l.cache) (λ d. frees_all l.s d (slot_by l.f (bytes l.table)) l.p)
 
 abbrev pub decreases-loop-p : goal.decreases-loop-p
 decreases-loop-p l = l.n - l.p
