@@ -1,4 +1,5 @@
 -- `bitmap::search` meets its contract: the loop's invariant: the array has all the free blocks passed, in order; a turn is `sofar_in` or `sofar_out`, then `sofar_skip`. Assumes nothing.
+use Prim.Native.Nat.{ℕ}
 use lib.ListN.{length-set}
 use mathlib.Core.Path.{refl, sym, ◌∙◌}
 use native.Mathlib.Omega.{arith}
@@ -24,7 +25,7 @@ loop-b-smaller c = omega (arith, c.skip-b-in-loop-b.ensures.low)
 
 pub loop-b-preserved : goal.loop-b-preserved
 loop-b-preserved c = elim c.if-clear.branch [
-  | then-clear w ↦ rw (w.list-is, w.found-is) (simp length-set c.loop-b.invariant.0, sofar_skip _ _ _ _ _ _ _ (sofar_in _ _ _ _ _ _ c.loop-b.invariant.1 (omega arith) (sym c.clear.ensures ∙ w.if-clear.true) (omega (arith, c.loop-b.invariant.1.most)) (omega (arith, c.loop-b.invariant.0, c.loop-b.invariant.1.most, c.requires.1))) c.skip-b-in-loop-b.ensures)
+  | then-clear w ↦ rw (w.list-is, w.found-is) (omega (arith, length-set {A = ℕ}), sofar_skip _ _ _ _ _ _ _ (sofar_in _ _ _ _ _ _ c.loop-b.invariant.1 (omega arith) (sym c.clear.ensures ∙ w.if-clear.true) (omega (arith, c.loop-b.invariant.1.most)) (omega (arith, c.loop-b.invariant.0, c.loop-b.invariant.1.most, c.requires.1))) c.skip-b-in-loop-b.ensures)
   | else-clear w ↦ rw (w.list-is, w.found-is) (c.loop-b.invariant.0, sofar_skip _ _ _ _ _ _ _ (sofar_out _ _ _ _ _ _ c.loop-b.invariant.1 (omega arith) (sym c.clear.ensures ∙ w.if-clear.false)) c.skip-b-in-loop-b.ensures)
 ]
 
