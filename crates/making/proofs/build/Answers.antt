@@ -1,6 +1,7 @@
 use mathlib.Core.Path.{◌∙◌}
 use native.Mathlib.Omega.{arith}
 use Rattle.making.specs.Built.{may, can, has_slot, built}
+use borrow.Author.Rules.{rules}
 use Rattle.making.proofs.build.Goals as goal
 
 -- src/lib.rt:183:13
@@ -17,4 +18,4 @@ take_slot-requires c = has_slot _ _ _ c.args.i c.args.kind c.args.p c.requires c
 
 -- src/lib.rt:167:1
 pub returns : goal.returns
-returns c = built _ _ _ c.args.i c.args.kind c.args.p c.requires c.record_all-w.result _ c.record_all-w.ensures c.args.major c.args.minor c.args.part.now _ c.take_slot.result _ (c.apply.auto.cache ∙ c.record_all-w.auto.cache ∙ c.requires.long) (λ x. (c.slice_known-3-1.given x).fits) c.apply.ensures c.slot_for-k.ensures c.take_slot.ensures
+returns c = built _ _ _ c.args.i c.args.kind c.args.p c.requires c.record_all-w.result _ c.record_all-w.ensures c.args.major c.args.minor c.args.part.now _ c.take_slot.result _ (c.apply.auto.cache ∙ c.record_all-w.auto.cache ∙ c.requires.long) (λ x. search rules) c.apply.ensures c.slot_for-k.ensures c.take_slot.ensures
