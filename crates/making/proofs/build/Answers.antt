@@ -1,6 +1,7 @@
 use mathlib.Core.Path.{◌∙◌}
 use native.Mathlib.Omega.{arith}
 use Rattle.making.specs.Built.{may, can, has_slot, built}
+use borrow.Author.Rules.{rules}
 use Rattle.making.proofs.build.Goals as goal
 
 -- src/lib.rt:183:13
