@@ -6,7 +6,7 @@
 -- save. If k is at least n + 1 (the header was written), every byte outside the log is as the finished save would have left it. Nothing in
 -- between ever comes out. On the way no mount finds a bad header (answer 18), and a recovery after one that finished has nothing to write.
 --
--- The proof is `pulled_card` in Crash.antt.
+-- The proof is `pulled_card` in proofs/Crash.antt.
 use Rattle.std.specs.Prelude.{◌≡◌, List, ℕ, ◌+◌, ◌*◌, ◌/◌, ◌≤◌, ◌<◌}
 use Rattle.base.specs.Bytes.{Bytes}
 use Rattle.superblock.specs.declared.Super.{Super}
