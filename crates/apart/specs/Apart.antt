@@ -1,13 +1,13 @@
--- "Every held number distinct" (document 01, "Write and truncate also need"), and how a pass with a mark for each block decides it.
+-- Every block that an inode holds is distinct, as write and truncate need it, and how a pass with a mark for each block decides it.
 -- Assumes nothing.
-use Rattle.std.specs.Prelude.{◌≡◌, Bool, true, false, cond, List, ℕ, ◌+◌, ◌-◌, ◌*◌, ◌≤◌, ◌<◌, get_or, length, set, replicate, ltb}
-use Rattle.std.proofs.Common.{sym, ap, ◌∙◌, arith, get_or-set_same, get_or-set_other, lt-ltb, le-ltb}
+use Rattle.std.specs.Prelude.{◌≡◌, Bool, true, false, cond, List, ℕ, ◌+◌, ◌-◌, ◌*◌, ◌≤◌, ◌<◌, get_or, replicate, ltb}
+use Rattle.std.proofs.Common.{sym, ap, ◌∙◌, arith, lt-ltb, le-ltb}
 use Rattle.std.proofs.Math.Decide.{ℕ_discrete, dec_lt}
 use Rattle.std.proofs.lemmas.List.{length-replicate, get_or-replicate}
 use Rattle.std.proofs.Math.ListN.{get_or-eq_default}
-use Rattle.base.specs.Bytes.{Bytes, bytes}
+use Rattle.base.specs.Bytes.{Bytes}
 use Rattle.base.specs.Number.{get, get_moved}
-use Rattle.base.specs.Decide.{Decides, not_so, alike}
+use Rattle.base.specs.Decide.{Decides, alike, never}
 use Rattle.superblock.specs.declared.Super.{Super}
 use Rattle.superblock.specs.declared.Inode.{Inode}
 use Rattle.superblock.specs.Geometry.{GoodNumbers}
@@ -89,65 +89,19 @@ module _ (d : Bytes) (f : Inode) (held : Held d (node f)) (t : Bytes) (same : (i
 
 -- ---- the pass
 
-zeros : (k x : ℕ) → bytes (replicate k 0) x ≡ 0
-zeros k x = elim (dec_lt x k) [
-  | yes l ↦ get_or-replicate {A = ℕ} k x 0 0 l
-  | no l ↦ get_or-eq_default (replicate {A = ℕ} k 0) 0 (omega (arith, length-replicate {A = ℕ} k 0))
-]
-
--- the marks m are those of f 0, .., f (n - 1), which are distinct
-pub record Marked (m : Bytes) (f : ℕ → ℕ) (n : ℕ) : Type 0 where
-  pub mark : (p : ℕ) → p < n → m (f p) ≡ 0 → ⊥
-  pub from : (x : ℕ) → (m x ≡ 0 → ⊥) → (p : ℕ) × (p < n) × (f p ≡ x)
+-- m says of each block whether it is marked; those that are are f 0, .., f (n - 1), which are distinct
+pub record Marked (m : List Bool) (f : ℕ → ℕ) (n : ℕ) : Type 0 where
+  pub mark : (p : ℕ) → p < n → get_or m (f p) false ≡ true
+  pub from : (x : ℕ) → get_or m x false ≡ true → (p : ℕ) × (p < n) × (f p ≡ x)
   pub once : Once f n
 
-pub marked-none : (m : Bytes) (f : ℕ → ℕ) → ((x : ℕ) → m x ≡ 0) → Marked m f 0
-marked-none m f h = record { mark = λ p l. absurd (omega arith); from = λ x n. absurd (n (h x)); once = record { once = λ p q l. absurd (omega arith) } }
-
-pub marked_start : (k : ℕ) (f : ℕ → ℕ) → Marked (bytes (replicate k 0)) f 0
-marked_start k f = marked-none (bytes (replicate k 0)) f (λ x. zeros k x)
-
--- a number that has a mark stood there before
-pub marked_twice : (m : Bytes) (f : ℕ → ℕ) (p n b x : ℕ) → Marked m f p → p < n → b ≡ f p → x ≡ m b → (x ≡ 0 → ⊥) → Decides false (Once f n)
-marked_twice m f p n b x g l e q h = not_so λ o.
-    let w = g.from b (λ z. h (q ∙ z)) in
-    let z : w.0 ≡ p = o.once w.0 p (omega (arith, w.1)) l (w.2 ∙ e) in
-    omega (arith, w.1)
-
-pub marked_more : (l : List ℕ) (f : ℕ → ℕ) (p b x : ℕ) → Marked (bytes l) f p → b ≡ f p → b < length l → x ≡ get_or l b 0 → x ≡ 0 → Marked (bytes (set l b 1)) f (p + 1)
-marked_more l f p b x g e h q z = record { mark = mark; from = from; once = record { once = once } }
+pub marked_start : (k : ℕ) (f : ℕ → ℕ) → Marked (replicate k false) f 0
+marked_start k f = record { mark = λ p l. absurd (omega arith); from = λ x n. never (sym (none x) ∙ n); once = record { once = λ p q l. absurd (omega arith) } }
   where
-    clear : get_or l b 0 ≡ 0
-    clear = sym q ∙ z
-
-    old : (r : ℕ) → r < p → f r ≡ b → ⊥
-    old r k y = g.mark r k (ap (λ (i : ℕ). get_or l i 0) y ∙ clear)
-
-    mark : (r : ℕ) → r < p + 1 → get_or (set l b 1) (f r) 0 ≡ 0 → ⊥
-    mark r k y = elim (ℕ_discrete (f r) b) [
-      | yes w ↦ let u : get_or (set l b 1) b 0 ≡ 1 = get_or-set_same l b 1 0 h in let t : get_or (set l b 1) (f r) 0 ≡ get_or (set l b 1) b 0 = ap (λ (i : ℕ). get_or (set l b 1) i 0) w in omega arith
-      | no w ↦ elim (ℕ_discrete r p) [
-        | yes u ↦ w (ap f u ∙ sym e)
-        | no u ↦ g.mark r (omega arith) (sym (get_or-set_other l b (f r) 1 0 w) ∙ y)
-      ]
-    ]
-
-    from : (y : ℕ) → (get_or (set l b 1) y 0 ≡ 0 → ⊥) → (r : ℕ) × (r < p + 1) × (f r ≡ y)
-    from y n = elim (ℕ_discrete y b) [
-      | yes w ↦ (p, omega arith, sym e ∙ sym w)
-      | no w ↦ let u = g.from y (λ c. n (get_or-set_other l b y 1 0 w ∙ c)) in (u.0, omega (arith, u.1), u.2)
-    ]
-
-    once : (r t : ℕ) → r < p + 1 → t < p + 1 → f r ≡ f t → r ≡ t
-    once r t k m y = elim (ℕ_discrete r p) [
-      | yes u ↦ elim (ℕ_discrete t p) [
-        | yes w ↦ omega arith
-        | no w ↦ absurd (old t (omega arith) (sym y ∙ ap f u ∙ sym e))
-      ]
-      | no u ↦ elim (ℕ_discrete t p) [
-        | yes w ↦ absurd (old r (omega arith) (y ∙ ap f w ∙ sym e))
-        | no w ↦ g.once.once r t (omega arith) (omega arith) y
-      ]
+    none : (x : ℕ) → get_or (replicate k false) x false ≡ false
+    none x = elim (dec_lt x k) [
+      | yes l ↦ get_or-replicate {A = Bool} k x false false l
+      | no l ↦ get_or-eq_default (replicate {A = Bool} k false) false (omega (arith, length-replicate {A = Bool} k false))
     ]
 
 -- ---- numbers that ascend are distinct
@@ -160,9 +114,6 @@ pub record Climbed (f : ℕ → ℕ) (n m : ℕ) : Type 0 where
 -- a test that says yes only of distinct numbers
 pub record Climbs (r : Bool) (f : ℕ → ℕ) (n : ℕ) : Type 0 where
   pub once : r ≡ true → Once f n
-
-pub climbed_none : (f : ℕ → ℕ) (m : ℕ) → Climbed f 0 m
-climbed_none f m = record { most = λ p l. absurd (omega arith); once = record { once = λ p q l. absurd (omega arith) } }
 
 pub climbed_more : (f : ℕ → ℕ) (n m b : ℕ) → Climbed f n m → b ≡ f n → m < b → Climbed f (n + 1) b
 climbed_more f n m b g e h = record { most = most; once = record { once = once } }
@@ -187,12 +138,6 @@ climbed_more f n m b g e h = record { most = most; once = record { once = once }
         | no w ↦ g.once.once p q (omega arith) (omega arith) y
       ]
     ]
-
-pub climbs_no : (f : ℕ → ℕ) (n : ℕ) → Climbs false f n
-climbs_no f n = record { once = λ e. absurd (let z : ◌≡◌ {A = ℕ} 0 1 = cc in omega arith) }
-
-pub climbs_yes : (f : ℕ → ℕ) (n m : ℕ) → Climbed f n m → Climbs true f n
-climbs_yes f n m g = record { once = λ _. g.once }
 
 -- the first 13, and all of them
 pub climbed_as : (f : ℕ → ℕ) (n k m : ℕ) → n ≡ k → Climbed f n m → Climbed f k m

@@ -5,9 +5,10 @@ ghost use Rattle.std.specs.Prelude.{◌≡◌, ℕ, ◌+◌, ◌*◌, ◌<◌, �
 ghost use Rattle.base.specs.Bytes.{bytes};
 ghost use Rattle.base.specs.Decide.{Decides};
 ghost use Rattle.superblock.specs.Node.{node};
-ghost use Rattle.bio.specs.Seen.{seen};
+ghost use Rattle.bio.specs.Memory.{memory};
 ghost use Rattle.apart.specs.Apart.{Apart, Once, Held, Climbed, Climbs, slot_by};
 
+use bio::Seen;
 use superblock::Inode;
 
 // The block in slot p of an inode whose indirect block is table.
@@ -35,32 +36,29 @@ fn entries_ascend(f: Inode, table: &[u8], n: usize, low: u32) -> bool
     }
     let m = n - 13;
     let mut last: u32 = low;
-    let mut k: usize = 0;
-    while k < m {
+    for k in 0..m {
         let b = base::read_u32(table, 4 * k);
         if b <= last {
             return false;
         }
         last = b;
-        k += 1;
     }
     true
 }
 
+// The direct slots are read from the record and the others from the block, so there are two loops.
 fn ascends(f: Inode, table: &[u8], n: usize) -> bool
     requires { n ≤ 269 }
     ensures { Climbs result (slot_by f (bytes table.now)) n }
 {
-    let m = base::smaller(n, 13);
+    let m = n.min(13);
     let mut last: u32 = 0;
-    let mut p: usize = 0;
-    while p < m {
+    for p in 0..m {
         let b = f.addrs[p];
         if b <= last {
             return false;
         }
         last = b;
-        p += 1;
     }
     entries_ascend(f, table, n, last)
 }
@@ -70,15 +68,13 @@ fn unmarked(f: Inode, table: &[u8], n: usize) -> bool
     requires { (n ≤ 269) × ((p : ℕ) → p < n → slot_by f (bytes table.now) p < 8192) }
     ensures { Decides result (Once (slot_by f (bytes table.now)) n) }
 {
-    let mut marks = [0u8; 8192];
-    let mut p: usize = 0;
-    while p < n {
-        let b = base::place(slot_in(f, table, p));
-        if marks[b] != 0 {
+    let mut marks = [false; 8192];
+    for p in 0..n {
+        let b = slot_in(f, table, p) as usize;
+        if marks[b] {
             return false;
         }
-        marks[b] = 1;
-        p += 1;
+        marks[b] = true;
     }
     true
 }
@@ -95,21 +91,10 @@ pub fn once(f: Inode, table: &[u8], n: usize) -> bool
 }
 
 // Whether an inode holds no block twice. Its slots in use hold block numbers below 8,192, as those of a fit inode do.
-pub fn distinct<'a, 'b>(
-    blocks: &'b [u32; 30],
-    counts: &'b [u32; 30],
-    image: &'a [u8],
-    cache: &'a [u8],
-    f: Inode,
-) -> bool
-    requires { Held (seen blocks.now counts.now (bytes cache.now) (bytes image.now)) (node f) }
-    ensures { Decides result (Apart (seen blocks.now counts.now (bytes cache.now) (bytes image.now)) (node f)) }
+pub fn distinct(card: &Seen<'_>, f: Inode) -> bool
+    requires { Held (memory card.now) (node f) }
+    ensures { Decides result (Apart (memory card.now) (node f)) }
 {
-    let n = (base::place(f.size) + 1023) / 1024;
-    let b = f.addrs[12];
-    let table = bio::block_in(blocks, counts, image, cache, b);
-    if n <= 12 {
-        return once(f, table, n);
-    }
-    once(f, table, n + 1)
+    let table = card.block(f.addrs[12]);
+    once(f, table, rules::slots_of(f.size as usize))
 }

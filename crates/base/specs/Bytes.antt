@@ -107,6 +107,10 @@ bytes_mid l p a k h r = is_put (bytes (put_mid a k l p)) (bytes l) a k (bytes p)
           ∙ get_or-drop k (drop a l) (x - (a + k)) 0 ∙ get_or-drop a l (k + (x - (a + k))) 0 ∙ ap (λ y. get_or l y 0) q2
     ]
 
+-- the n bytes of f put into a part of a slice that was lent
+pub put_part : (l p : List ℕ) (a n k : ℕ) (f : Bytes) → k ≡ n → length p ≡ k → a + n ≤ length l → ((i : ℕ) → i < n → bytes p i ≡ f i) → bytes (put_mid a k l p) ≡ put (bytes l) a n f
+put_part l p a n k f e q h m = rw e (bytes_mid l p a n (q ∙ e) h ∙ put_same (bytes l) a n (bytes p) f m)
+
 -- block b of a memory
 abbrev pub block : Bytes → ℕ → Bytes
 block d b = λ j. d (b * 1024 + j)

@@ -22,19 +22,12 @@ module _ {P : Type 0} where
   pub not_so : (P → ⊥) → Decides false P
   not_so n = record { true_is = λ e. absurd (tf (sym e)); false_is = λ _. n }
 
-  -- after `if !ok`: today's branch says what the test itself was
+  -- after `if !ok`: the branch says what the test itself was
   pub no_by : {b : Bool} → Decides b P → b ≡ false → P → ⊥
   no_by d e = d.false_is e
 
   pub yes_by : {b : Bool} → Decides b P → b ≡ true → P
   yes_by d e = d.true_is e
-
-  -- the same of a negated test's own answer
-  pub denied : {b : Bool} → Decides b P → not b ≡ true → P → ⊥
-  denied {b} d e = d.false_is (not-true b e)
-
-  pub passed : {b : Bool} → Decides b P → not b ≡ false → P
-  passed {b} d e = d.true_is (not-false b e)
 
   pub alike : {Q : Type 0} {b : Bool} → (P → Q) → (Q → P) → Decides b P → Decides b Q
   alike f h d = record { true_is = λ e. f (d.true_is e); false_is = λ e q. d.false_is e (h q) }

@@ -1,8 +1,8 @@
 -- Numbers in memory, little-endian: one recursion serves u16 and u32. `le` makes a number of bytes, `digit` the bytes of a number, `get` reads
 -- one at an address; what a `put` does to a `get` is said by `get-same`, `get_part` and `get_other`. Assumes nothing.
-use Rattle.std.specs.Prelude.{◌≡◌, refl, ℕ, zero, suc, ◌+◌, ◌*◌, ◌/◌, ◌%◌, ◌^◌, ◌≤◌, ◌<◌, List, length, set}
-use Rattle.std.proofs.Common.{sym, ap, ◌∙◌, arith, pow-suc, length-set}
-use Rattle.base.specs.Bytes.{Bytes, bytes, put, put_in, put_out, put-none, store_more}
+use Rattle.std.specs.Prelude.{◌≡◌, refl, ℕ, zero, suc, ◌+◌, ◌*◌, ◌/◌, ◌%◌, ◌^◌, ◌≤◌, ◌<◌, [], ◌∷◌}
+use Rattle.std.proofs.Common.{ap, ◌∙◌, arith, pow-suc}
+use Rattle.base.specs.Bytes.{Bytes, bytes, put, put_in, put_out}
 
 -- the number that f 0, f 1, .., f (n - 1) are, the lowest byte first
 unfoldable pub le : ℕ → Bytes → ℕ
@@ -70,32 +70,28 @@ digit_lt x (suc k) = digit_lt (x / 256) k
 pub get-put : (d : Bytes) (a n x : ℕ) → x < 256 ^ n → get (put d a n (digit x)) a n ≡ x
 get-put d a n x h = get-same d a n (digit x) ∙ le-digit n x h
 
--- two stores in a row, and four
-pub set_two : (l : List ℕ) (a : ℕ) (f : Bytes) → a + 2 ≤ length l
-    → bytes (set (set l a (f 0)) (a + 1) (f 1)) ≡ put (bytes l) a 2 f
-set_two l a f h =
-    let l1 = set l a (f 0) in
-    let s1 = store_more l (bytes l) a 0 f a (f 0) (sym (put-none (bytes l) a f)) (omega arith) (omega arith) refl in
-    store_more l1 (bytes l) a 1 f (a + 1) (f 1) s1 refl (simp length-set (omega arith)) refl
-
-pub set_four : (l : List ℕ) (a : ℕ) (f : Bytes) → a + 4 ≤ length l
-    → bytes (set (set (set (set l a (f 0)) (a + 1) (f 1)) (a + 2) (f 2)) (a + 3) (f 3)) ≡ put (bytes l) a 4 f
-set_four l a f h =
-    let l1 = set l a (f 0) in
-    let l2 = set l1 (a + 1) (f 1) in
-    let l3 = set l2 (a + 2) (f 2) in
-    let s1 = store_more l (bytes l) a 0 f a (f 0) (sym (put-none (bytes l) a f)) (omega arith) (omega arith) refl in
-    let s2 = store_more l1 (bytes l) a 1 f (a + 1) (f 1) s1 refl (simp length-set (omega arith)) refl in
-    let s3 = store_more l2 (bytes l) a 2 f (a + 2) (f 2) s2 refl (simp length-set (omega arith)) refl in
-    store_more l3 (bytes l) a 3 f (a + 3) (f 3) s3 refl (simp length-set (omega arith)) refl
-
--- as the code joins bytes
-pub from_two : (d : Bytes) (a r x y : ℕ) → x ≡ d (a + 0) → y ≡ d (a + 1) → r ≡ x + 256 * y → r ≡ get d a 2
+-- as the library joins bytes
+pub from_two : (d : Bytes) (a r x y : ℕ) → x ≡ d (a + 0) → y ≡ d (a + 1) → r ≡ x + y * 256 → r ≡ get d a 2
 from_two d a r x y hx hy h = omega (arith, get_two d a)
 
 pub from_four : (d : Bytes) (a r x y z w : ℕ) → x ≡ d (a + 0) → y ≡ d (a + 1) → z ≡ d (a + 2) → w ≡ d (a + 3)
-    → r ≡ x + 256 * y + 65536 * z + 16777216 * w → r ≡ get d a 4
+    → r ≡ x + y * 256 + z * 65536 + w * 16777216 → r ≡ get d a 4
 from_four d a r x y z w hx hy hz hw h = omega (arith, get_four d a)
+
+-- the bytes that the library makes of a number
+pub digit_two : (x i : ℕ) → i < 2 → bytes (x % 256 ∷ x / 256 % 256 ∷ []) i ≡ digit x i
+unfolding digit
+digit_two x zero h = refl
+digit_two x (suc zero) h = refl
+digit_two x (suc (suc i)) h = absurd (omega arith)
+
+pub digit_four : (x i : ℕ) → i < 4 → bytes (x % 256 ∷ x / 256 % 256 ∷ x / 65536 % 256 ∷ x / 16777216 % 256 ∷ []) i ≡ digit x i
+unfolding digit
+digit_four x zero h = refl
+digit_four x (suc zero) h = refl
+digit_four x (suc (suc zero)) h = omega arith
+digit_four x (suc (suc (suc zero))) h = omega arith
+digit_four x (suc (suc (suc (suc i)))) h = absurd (omega arith)
 
 pub here : (d : Bytes) (a : ℕ) → d a ≡ d (a + 0)
 here d a = ap d (omega arith)

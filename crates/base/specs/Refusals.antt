@@ -1,9 +1,9 @@
--- Document 01's number of each refusal. 19, cut, is an answer of its own and no refusal: it leaves writes on the card.
+-- The number of each refusal. 19, cut, is an answer of its own and no refusal: it leaves writes on the card.
 use Rattle.std.specs.Prelude.{ℕ}
 use Rattle.base.specs.declared.Refusal.{Refusal}
 use Rattle.base.specs.declared.Refusal.TheVariants.{NotWhole, BadCall, NoTransaction, BadHandle, Unfit, NotDirectory, NoName, WrongKind, PastEnd, TooLarge, NoSlot, NoInode, NoBlock, NoLogRoom, Busy, NoBuffer, BadSuper, BadLog}
 
--- the paper's number
+-- a refusal's number
 abbrev pub number : Refusal → ℕ
 number NotWhole = 1
 number BadCall = 2

@@ -11,8 +11,8 @@ ghost use Rattle.base.specs.Number.{digit, get as num_at};
 ghost use Rattle.base.specs.Bit.{bit_at, with_bit};
 ghost use Rattle.base.specs.Refusals.{number};
 
-// Document 01's refusals, 1 to 18 in its order.
-#[derive(Clone, Copy)]
+// Why a call was refused, 1 to 18 in this order.
+#[derive(Clone, Copy, PartialEq, Eq)]
 pub enum Refusal {
     NotWhole,
     BadCall,
@@ -34,29 +34,31 @@ pub enum Refusal {
     BadLog,
 }
 
-// The paper's number of a refusal.
-pub fn number_of(r: Refusal) -> u32
-    ensures { result ≡ number r }
-{
-    match r {
-        Refusal::NotWhole => 1,
-        Refusal::BadCall => 2,
-        Refusal::NoTransaction => 3,
-        Refusal::BadHandle => 4,
-        Refusal::Unfit => 5,
-        Refusal::NotDirectory => 6,
-        Refusal::NoName => 7,
-        Refusal::WrongKind => 8,
-        Refusal::PastEnd => 9,
-        Refusal::TooLarge => 10,
-        Refusal::NoSlot => 11,
-        Refusal::NoInode => 12,
-        Refusal::NoBlock => 13,
-        Refusal::NoLogRoom => 14,
-        Refusal::Busy => 15,
-        Refusal::NoBuffer => 16,
-        Refusal::BadSuper => 17,
-        Refusal::BadLog => 18,
+impl Refusal {
+    // A refusal's number.
+    pub fn number(self) -> u32
+        ensures { result ≡ number self }
+    {
+        match self {
+            Refusal::NotWhole => 1,
+            Refusal::BadCall => 2,
+            Refusal::NoTransaction => 3,
+            Refusal::BadHandle => 4,
+            Refusal::Unfit => 5,
+            Refusal::NotDirectory => 6,
+            Refusal::NoName => 7,
+            Refusal::WrongKind => 8,
+            Refusal::PastEnd => 9,
+            Refusal::TooLarge => 10,
+            Refusal::NoSlot => 11,
+            Refusal::NoInode => 12,
+            Refusal::NoBlock => 13,
+            Refusal::NoLogRoom => 14,
+            Refusal::Busy => 15,
+            Refusal::NoBuffer => 16,
+            Refusal::BadSuper => 17,
+            Refusal::BadLog => 18,
+        }
     }
 }
 
@@ -87,45 +89,31 @@ pub fn from(s: &[u8], i: usize) -> &[u8]
     if i <= s.len() { &s[i..] } else { &s[..0] }
 }
 
-// Two bytes, and four, as a number, the lowest first.
-pub fn join2(b0: u8, b1: u8) -> u16
-    ensures { result ≡ b0 + 256 * b1 }
-{
-    b0 as u16 + 256 * (b1 as u16)
-}
-
-pub fn join4(b0: u8, b1: u8, b2: u8, b3: u8) -> u32
-    ensures { result ≡ b0 + 256 * b1 + 65536 * b2 + 16777216 * b3 }
-{
-    b0 as u32 + 256 * (b1 as u32) + 65536 * (b2 as u32) + 16777216 * (b3 as u32)
-}
-
+// A number of two bytes and one of four have a function each: they differ in the type that they give, and a trait over the two types would be
+// longer than the bodies of one line that it saved.
+//
 // The numbers at an address, bytes past the slice's end being 0.
 pub fn get_u16(s: &[u8], a: usize) -> u16
     ensures { result ≡ num_at (bytes s.now) a 2 }
 {
-    if 2 <= s.len() {
-        if a <= s.len() - 2 {
-            return read_u16(s, a);
-        }
+    if 2 <= s.len() && a <= s.len() - 2 {
+        return read_u16(s, a);
     }
-    join2(get_past(s, a, 0), get_past(s, a, 1))
+    u16::from_le_bytes([get_past(s, a, 0), get_past(s, a, 1)])
 }
 
 pub fn get_u32(s: &[u8], a: usize) -> u32
     ensures { result ≡ num_at (bytes s.now) a 4 }
 {
-    if 4 <= s.len() {
-        if a <= s.len() - 4 {
-            return read_u32(s, a);
-        }
+    if 4 <= s.len() && a <= s.len() - 4 {
+        return read_u32(s, a);
     }
-    join4(
+    u32::from_le_bytes([
         get_past(s, a, 0),
         get_past(s, a, 1),
         get_past(s, a, 2),
         get_past(s, a, 3),
-    )
+    ])
 }
 
 // The same where the slice is known to reach: no test at run time.
@@ -133,14 +121,14 @@ pub fn read_u16(s: &[u8], a: usize) -> u16
     requires { a + 2 ≤ length s.now }
     ensures { result ≡ num_at (bytes s.now) a 2 }
 {
-    join2(s[a], s[a + 1])
+    u16::from_le_bytes([s[a], s[a + 1]])
 }
 
 pub fn read_u32(s: &[u8], a: usize) -> u32
     requires { a + 4 ≤ length s.now }
     ensures { result ≡ num_at (bytes s.now) a 4 }
 {
-    join4(s[a], s[a + 1], s[a + 2], s[a + 3])
+    u32::from_le_bytes([s[a], s[a + 1], s[a + 2], s[a + 3]])
 }
 
 // A number's bytes at an address, the lowest first.
@@ -148,18 +136,14 @@ pub fn put_u16(dst: &mut [u8], a: usize, v: u16)
     requires { a + 2 ≤ length dst.old }
     ensures { bytes dst.new ≡ put (bytes dst.old) a 2 (digit v) }
 {
-    dst[a] = (v % 256) as u8;
-    dst[a + 1] = (v / 256 % 256) as u8;
+    dst[a..a + 2].copy_from_slice(&v.to_le_bytes());
 }
 
 pub fn put_u32(dst: &mut [u8], a: usize, v: u32)
     requires { a + 4 ≤ length dst.old }
     ensures { bytes dst.new ≡ put (bytes dst.old) a 4 (digit v) }
 {
-    dst[a] = (v % 256) as u8;
-    dst[a + 1] = (v / 256 % 256) as u8;
-    dst[a + 2] = (v / 256 / 256 % 256) as u8;
-    dst[a + 3] = (v / 256 / 256 / 256 % 256) as u8;
+    dst[a..a + 4].copy_from_slice(&v.to_le_bytes());
 }
 
 // The n bytes of src from s on go to dst from d on.
@@ -167,11 +151,7 @@ pub fn copy_part(dst: &mut [u8], d: usize, src: &[u8], s: usize, n: usize)
     requires { (d + n ≤ length dst.old) × (s + n ≤ length src.now) }
     ensures { bytes dst.new ≡ put (bytes dst.old) d n (λ k. bytes src.now (s + k)) }
 {
-    let mut i = 0;
-    while i < n {
-        dst[d + i] = src[s + i];
-        i += 1;
-    }
+    dst[d..d + n].copy_from_slice(&src[s..s + n]);
 }
 
 // The n bytes from d on become 0.
@@ -179,14 +159,10 @@ pub fn clear_part(dst: &mut [u8], d: usize, n: usize)
     requires { d + n ≤ length dst.old }
     ensures { bytes dst.new ≡ put (bytes dst.old) d n (λ k. 0) }
 {
-    let mut i = 0;
-    while i < n {
-        dst[d + i] = 0;
-        i += 1;
-    }
+    dst[d..d + n].fill(0);
 }
 
-// One bit of a byte: read, set, cleared; the other seven stay.
+// One bit of a byte: read, set, cleared; the other seven stay. Set and cleared are two, since one function with the bit's value would test it.
 pub fn bit_of(v: u8, k: u8) -> u8
     requires { k < 8 }
     ensures { result ≡ bit_at v k }
@@ -208,52 +184,15 @@ pub fn bit_clear(v: u8, k: u8) -> u8
     v & !(1 << k)
 }
 
-// The smaller of two.
-pub fn smaller(a: usize, b: usize) -> usize
-    ensures { result ≡ min a b }
-{
-    if a < b { a } else { b }
-}
-
-// An entry's number widened, to name an inode and to index the inode area; an inode's number narrowed without loss, to be written in an entry.
-pub fn inode_of_entry(n: u16) -> u32
-    ensures { result ≡ n }
-{
-    n as u32
-}
-
-pub fn entry_of_inode(i: u32) -> u16
-    requires { i < 65536 }
-    ensures { result ≡ i }
-{
-    i as u16
-}
-
-// A number as a place in memory, and a place that is known to be small as a number.
-pub fn place(n: u32) -> usize
-    ensures { result ≡ n }
-{
-    n as usize
-}
-
-pub fn small(n: usize) -> u32
-    requires { n < 4294967296 }
-    ensures { result ≡ n }
-{
-    n as u32
-}
-
 // Where b is first among the first n numbers, or n.
 pub fn find(xs: &[u32; 30], n: usize, b: u32) -> usize
     requires { n ≤ 30 }
     ensures { result ≡ first (λ k. eqb (bytes xs.now k) b) n }
 {
-    let mut i = 0;
-    while i < n {
+    for i in 0..n {
         if xs[i] == b {
             return i;
         }
-        i += 1;
     }
-    i
+    n
 }

@@ -7,3 +7,4 @@ pub mod Take
 pub mod Order
 pub mod Mask
 pub mod Fresh
+pub mod Memory

@@ -15,7 +15,7 @@ use Rattle.superblock.specs.Node.{Node, no_node}
 use Rattle.rules.specs.Fit.{Taken, Fit, held, count, in_use}
 use Rattle.rules.specs.Rules.{S3, S4}
 use Rattle.base.specs.Decide.{Decides, not_so, alike}
-use Rattle.reads.specs.Read.{ino_high}
+use Rattle.reads.specs.Read.{ino_none}
 
 -- the memory m with marks at f 0, .., f (n - 1)
 unfoldable pub marked : Bytes → (ℕ → ℕ) → ℕ → Bytes
@@ -41,16 +41,6 @@ pub record BitOk (g : Super) (v : Disk) (b mark : ℕ) : Type 0 where
   pub low : b < data_start g → v.bit b ≡ 1
   pub taken : data_start g ≤ b → mark ≡ 1 → v.bit b ≡ 1
   pub only : data_start g ≤ b → v.bit b ≡ 1 → mark ≡ 1
-
-module _ (g : Super) (v : Disk) (b mark t : ℕ) (r : Bool) (e : t ≡ v.bit b) where
-  pub bit_low : b < data_start g → Decides r (t ≡ 1) → Decides r (BitOk g v b mark)
-  bit_low l d = alike (λ z. record { low = λ _. sym e ∙ z; taken = λ m _. absurd (omega arith); only = λ m _. absurd (omega arith) }) (λ o. e ∙ o.low l) d
-
-  pub bit_marked : data_start g ≤ b → mark ≡ 1 → Decides r (t ≡ 1) → Decides r (BitOk g v b mark)
-  bit_marked l k d = alike (λ z. record { low = λ m. absurd (omega arith); taken = λ _ _. sym e ∙ z; only = λ _ _. k }) (λ o. e ∙ o.taken l k) d
-
-  pub bit_free : data_start g ≤ b → (mark ≡ 1 → ⊥) → Decides r (t ≢ 1) → Decides r (BitOk g v b mark)
-  bit_free l k d = alike (λ z. record { low = λ m. absurd (omega arith); taken = λ _ y. absurd (k y); only = λ _ y. absurd (z (e ∙ y)) }) (λ o y. k (o.only l (sym e ∙ y))) d
 
 -- ---- one turn of the code
 
@@ -121,11 +111,6 @@ pub record Below (v : Disk) (n b : ℕ) : Type 0 where
   pub here : held v i p ≡ b
 
 module _ (m : Bytes) (v : Disk) where
-  all-keeps : (n b : ℕ) → m b ≡ 1 → marked_all m v n b ≡ 1
-  unfolding marked_all
-  all-keeps zero b h = h
-  all-keeps (suc n) b h = marked-keeps (marked_all m v n) (held v n) (count v n) b (all-keeps n b h)
-
   pub all_has : (n i p : ℕ) → i < n → p < count v i → marked_all m v n (held v i p) ≡ 1
   unfolding marked_all
   all_has zero i p l k = absurd (omega arith)
@@ -151,7 +136,7 @@ module _ (g : Super) (ok : GoodNumbers g) (d : Bytes) (s3 : S3 g (disk g d)) whe
   count_in i p l = elim (dec_lt i g.ninodes) [
     | yes h ↦ h
     | no h ↦
-        let z : ino_of g d i ≡ no_node = ino_high g d i (omega (arith, ok.inodes_least)) (omega arith) in
+        let z : ino_of g d i ≡ no_node = ino_none g d i (λ _. omega arith) in
         let q : count (disk g d) i ≡ 0 = ap (λ (r : Node). in_use r.kind r.size) z in absurd (omega arith)
   ]
 

@@ -1,5 +1,5 @@
 -- The table of boot: it is well-formed, its buffers are clean, and the first that is taken is 29. Assumes nothing.
-use Rattle.std.specs.Prelude.{◌≡◌, refl, ℕ, ◌-◌, ◌<◌, get_or, eqb}
+use Rattle.std.specs.Prelude.{◌≡◌, refl, ℕ, ◌<◌, get_or, eqb}
 use Rattle.std.proofs.Common.{◌∙◌, arith, ne_eqb}
 use Rattle.base.specs.Bytes.{Bytes}
 use Rattle.base.specs.First.{first, first-none, tabulate, get_d_tabulate}

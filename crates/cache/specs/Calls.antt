@@ -1,6 +1,6 @@
--- The four calls: document 01's rows of each, in its order, and what a call that meets none of them leaves. A refusal leaves the table and
--- every byte of the memory as they were. Assumes nothing.
-use Rattle.std.specs.Prelude.{◌≡◌, ◌≢◌, List, [], ◌∷◌, ℕ, ◌+◌, ◌*◌, ◌≤◌, ◌<◌, get_or, length}
+-- The four calls: the refusals of each, in their order, and what a call that meets none of them leaves. A refusal leaves the table and every
+-- byte of the memory as they were. Assumes nothing.
+use Rattle.std.specs.Prelude.{◌≡◌, ◌≢◌, List, [], ◌∷◌, ℕ, ◌+◌, ◌*◌, ◌≤◌, ◌<◌, get_or, length, Result, Ok, Err}
 use Rattle.std.proofs.Common.{sym, ap, ◌∙◌}
 use Rattle.base.specs.Bytes.{bytes}
 use Rattle.base.specs.Refusals as refusals
@@ -10,25 +10,21 @@ use Rattle.base.specs.declared.Refusal.TheVariants.{NotWhole, BadCall, NoBuffer}
 use Rattle.bio.specs.Fresh.{none}
 use Rattle.bio.specs.declared.Table.{Table}
 use Rattle.cache.specs.Tables.{WellFormed, buffer_with, chosen, one_more, one_less, gotten, fetched, released}
-use Rattle.cache.specs.declared.Answer.{Answer}
-use Rattle.cache.specs.declared.Answer.TheVariants.{Buffer, Done, Refused}
 use Rattle.cache.specs.declared.After.{After}
 
--- the paper's number of an answer, 0 for none
-abbrev pub number : Answer → ℕ
-number (Buffer j) = 0
-number Done = 0
-number (Refused r) = refusals.number r
+-- the number of an answer, 0 for none
+abbrev pub number : {A : Type 0} → Result A Refusal → ℕ
+number (Ok x) = 0
+number (Err r) = refusals.number r
 
--- the buffer that an answer names, 30 for none
-abbrev pub index : Answer → ℕ
-index (Buffer j) = j
-index Done = 30
-index (Refused r) = 30
+-- the buffer that a get's answer names, 30 for none
+abbrev pub index : Result ℕ Refusal → ℕ
+index (Ok j) = j
+index (Err r) = 30
 
 -- the table as it was, with a refusal
-abbrev pub refused : Table → Refusal → After
-refused t n = record { table = t; answer = Refused n }
+abbrev pub refused : {A : Type 0} → Table → Refusal → After A
+refused t n = record { table = t; answer = Err n }
 
 -- ---- get
 
@@ -39,7 +35,7 @@ pub record Inside (b : ℕ) (image : List ℕ) : Type 0 where
 
 -- what get leaves: its answer with the table, and the memory
 abbrev pub Left : Type 0
-Left = After × List ℕ
+Left = After ℕ × List ℕ
 
 -- the table not whole; memory of another length; a block outside the image; a count already 1,000; no buffer without references
 abbrev pub get_rows : Table → List ℕ → List ℕ → ℕ → List (Row Refusal)
@@ -53,7 +49,7 @@ get_rows t memory image b =
 
 -- the buffer has the block with a reference more
 pub record Got (t : Table) (memory image : List ℕ) (b : ℕ) (l : Left) : Type 0 where
-  pub answer : l.0.answer ≡ Buffer (chosen t b)
+  pub answer : l.0.answer ≡ Ok (chosen t b)
   pub table : l.0.table ≡ gotten t b
   pub memory_is : bytes l.1 ≡ fetched t b (bytes image) (bytes memory)
 
@@ -89,35 +85,31 @@ unpin_rows t j =
     ∷ []
 
 -- the table t', and no more to say
-pub record Went (t' : Table) (a : After) : Type 0 where
-  pub is : a ≡ record { table = t'; answer = Done }
+pub record Went (t' : Table) (a : After Unit) : Type 0 where
+  pub is : a ≡ record { table = t'; answer = Ok tt }
 
 -- release, pin, unpin: the first row that holds, with the table as it was, else the next table
-abbrev pub ReleaseGives : Table → ℕ → After → Type 0
+abbrev pub ReleaseGives : Table → ℕ → After Unit → Type 0
 ReleaseGives t j = Gives (refused t) (release_rows t j) (Went (released t j))
 
-abbrev pub PinGives : Table → ℕ → After → Type 0
+abbrev pub PinGives : Table → ℕ → After Unit → Type 0
 PinGives t j = Gives (refused t) (pin_rows t j) (Went (one_more t j))
 
-abbrev pub UnpinGives : Table → ℕ → After → Type 0
+abbrev pub UnpinGives : Table → ℕ → After Unit → Type 0
 UnpinGives t j = Gives (refused t) (unpin_rows t j) (Went (one_less t j))
-
--- the same table by another name
-pub went_as : {u t' : Table} {a : After} → u ≡ t' → Went u a → Went t' a
-went_as e w = rw (← e) w
 
 -- ---- the answer is unique
 
-went_one : (t : Table) (rows : List (Row Refusal)) (t' : Table) (a b : After) → Gives (refused t) rows (Went t') a → Gives (refused t) rows (Went t') b → a ≡ b
+went_one : (t : Table) (rows : List (Row Refusal)) (t' : Table) (a b : After Unit) → Gives (refused t) rows (Went t') a → Gives (refused t) rows (Went t') b → a ≡ b
 went_one t rows t' a b p q = gives_one (refused t) rows (Went t') (λ x y. x ≡ y) (λ n x y e f. e ∙ sym f) (λ x y e f. e.is ∙ sym f.is) a b p q
 
-pub release_one : (t : Table) (j : ℕ) (a b : After) → ReleaseGives t j a → ReleaseGives t j b → a ≡ b
+pub release_one : (t : Table) (j : ℕ) (a b : After Unit) → ReleaseGives t j a → ReleaseGives t j b → a ≡ b
 release_one t j a b p q = went_one t (release_rows t j) (released t j) a b p q
 
-pub pin_one : (t : Table) (j : ℕ) (a b : After) → PinGives t j a → PinGives t j b → a ≡ b
+pub pin_one : (t : Table) (j : ℕ) (a b : After Unit) → PinGives t j a → PinGives t j b → a ≡ b
 pin_one t j a b p q = went_one t (pin_rows t j) (one_more t j) a b p q
 
-pub unpin_one : (t : Table) (j : ℕ) (a b : After) → UnpinGives t j a → UnpinGives t j b → a ≡ b
+pub unpin_one : (t : Table) (j : ℕ) (a b : After Unit) → UnpinGives t j a → UnpinGives t j b → a ≡ b
 unpin_one t j a b p q = went_one t (unpin_rows t j) (one_less t j) a b p q
 
 -- of a get: the answer, the table, and every byte of the memory

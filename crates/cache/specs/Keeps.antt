@@ -3,7 +3,6 @@ use Rattle.std.specs.Prelude.{◌≡◌, ◌≢◌, ◌⊎◌, List, ℕ, ◌+�
 use Rattle.std.proofs.Common.{sym, ap, ◌∙◌, inl, inr, arith, length-set, get_or-set_same, get_or-set_other, eqb-true}
 use Rattle.std.proofs.Math.Decide.{ℕ_discrete, dec_lt, dec_le}
 use Rattle.std.proofs.lemmas.Bool.{eqb-false}
-use Rattle.base.specs.Bytes.{block}
 use Rattle.base.specs.First.{first_before, first_holds}
 use Rattle.base.specs.declared.Refusal.{Refusal}
 use Rattle.bio.specs.Fresh.{none}
@@ -151,7 +150,7 @@ get_well t memory image b l w g = go (get-cases t memory image b l w g)
     go (inl r) = rw (refused_table t memory l r) w
     go (inr s) = rw s.got.table (holding_well t w (chosen t b) s.below b s.room s.only)
 
-pub release_well : (t : Table) (j : ℕ) (a : After) → WellFormed t → ReleaseGives t j a → WellFormed a.table
+pub release_well : (t : Table) (j : ℕ) (a : After Unit) → WellFormed t → ReleaseGives t j a → WellFormed a.table
 release_well t j a w (inl g) = absurd (g.0 w)
 release_well t j a w (inr (h1, inl g)) = rw g.1 w
 release_well t j a w (inr (h1, inr (h2, inl g))) = rw g.1 w
@@ -164,7 +163,7 @@ release_well t j a w (inr (h1, inr (h2, inr (h3, g)))) = rw g.is (go (ℕ_discre
     go (yes e) = rw (released_last t j e) (front_well t w j low)
     go (no e) = rw (released_more t j e) (count_well t w j low (get_or t.counts j 0 - 1) (omega (arith, w.counts.each j low)))
 
-pub pin_well : (t : Table) (j : ℕ) (a : After) → WellFormed t → PinGives t j a → WellFormed a.table
+pub pin_well : (t : Table) (j : ℕ) (a : After Unit) → WellFormed t → PinGives t j a → WellFormed a.table
 pin_well t j a w (inl g) = absurd (g.0 w)
 pin_well t j a w (inr (h1, inl g)) = rw g.1 w
 pin_well t j a w (inr (h1, inr (h2, inl g))) = rw g.1 w
@@ -173,7 +172,7 @@ pin_well t j a w (inr (h1, inr (h2, inr (h3, inr (h4, g))))) =
     let low : j < 30 = omega (arith, h2) in
     rw g.is (count_well t w j low (get_or t.counts j 0 + 1) (omega (arith, w.counts.each j low, h4)))
 
-pub unpin_well : (t : Table) (j : ℕ) (a : After) → WellFormed t → UnpinGives t j a → WellFormed a.table
+pub unpin_well : (t : Table) (j : ℕ) (a : After Unit) → WellFormed t → UnpinGives t j a → WellFormed a.table
 unpin_well t j a w (inl g) = absurd (g.0 w)
 unpin_well t j a w (inr (h1, inl g)) = rw g.1 w
 unpin_well t j a w (inr (h1, inr (h2, inl g))) = rw g.1 w

@@ -1,13 +1,12 @@
 -- A block that is held stays where it is, with its bytes, through every call on other blocks; after a get the buffer's bytes are the block's;
 -- and where buffers without references have the image's bytes, no call changes what is seen. Assumes nothing.
-use Rattle.std.specs.Prelude.{◌≡◌, refl, ◌≢◌, ◌⊎◌, List, ℕ, ◌+◌, ◌-◌, ◌*◌, ◌≤◌, ◌<◌, get_or, length, set, eqb}
+use Rattle.std.specs.Prelude.{◌≡◌, refl, ◌≢◌, ◌⊎◌, List, ℕ, ◌+◌, ◌-◌, ◌*◌, ◌≤◌, ◌<◌, get_or, length, set, eqb, Ok}
 use Rattle.std.proofs.Common.{sym, ap, ◌∙◌, inl, inr, arith, length-set, ext_get_or, get_or-set_same, get_or-set_other, eqb-true}
 use Rattle.std.proofs.Math.Decide.{ℕ_discrete, dec_lt}
 use Rattle.base.specs.Bytes.{Bytes, bytes, put, put-at, put_out, is_put, block}
 use Rattle.base.specs.First.{first-same, first_holds}
 use Rattle.base.specs.Update.{upd, upd_set}
 use Rattle.base.specs.declared.Refusal.{Refusal}
-use Rattle.bio.specs.Among.{among}
 use Rattle.bio.specs.Fresh.{none}
 use Rattle.bio.specs.Order.{least_recent, least_free}
 use Rattle.bio.specs.Seen.{pinned, pinned-other, buffer_of, buffer_holds, buffer_is, buffer_none, seen, seen_in, seen_out, by_block}
@@ -15,7 +14,6 @@ use Rattle.bio.specs.Take.{Taken, taken_there, seen-taken, counted_buffer, seen_
 use Rattle.bio.specs.declared.Table.{Table}
 use Rattle.cache.specs.Tables.{WellFormed, buffer_with, chosen, chosen_own, chosen_new, with_count, gotten, fetched, fetched_own, fetched_new, released, released_last, released_more}
 use Rattle.cache.specs.Calls.{Left, GetGives, ReleaseGives, PinGives, UnpinGives, index, refused}
-use Rattle.cache.specs.declared.Answer.TheVariants.{Buffer}
 use Rattle.cache.specs.declared.After.{After}
 use Rattle.cache.specs.Keeps.{Served, get-cases, count-here, count-other, block_here, block-other, refused_table}
 
@@ -167,7 +165,7 @@ refused-memory : (t : Table) (memory : List ℕ) (l : Left) → ((n : Refusal) �
 refused-memory t memory l r = ap (λ (x : Left). bytes x.1) r.1
 
 -- no refusal names a buffer
-refused_none : (t : Table) (memory : List ℕ) (l : Left) (k : ℕ) → k < 30 → ((n : Refusal) × (l ≡ (refused t n, memory))) → l.0.answer ≡ Buffer k → ⊥
+refused_none : (t : Table) (memory : List ℕ) (l : Left) (k : ℕ) → k < 30 → ((n : Refusal) × (l ≡ (refused t n, memory))) → l.0.answer ≡ Ok k → ⊥
 refused_none t memory l k h r e = omega (arith, sym (ap (λ (x : Left). index x.0.answer) r.1) ∙ ap index e)
 
 module _ (t : Table) (memory image : List ℕ) (b : ℕ) (l : Left) (w : WellFormed t) (g : GetGives t memory image b l) where
@@ -180,7 +178,7 @@ module _ (t : Table) (memory image : List ℕ) (b : ℕ) (l : Left) (w : WellFor
       go (inr s) = rw (s.got.table, s.got.memory_is) (record { place = got_place t memory image b l s c h; byte = got_byte t memory image b l s c h })
 
   -- a get that names a buffer: block b is held there
-  module _ (k : ℕ) (low : k < 30) (e : l.0.answer ≡ Buffer k) where
+  module _ (k : ℕ) (low : k < 30) (e : l.0.answer ≡ Ok k) where
     served : Served t memory image b l
     served = go (get-cases t memory image b l w g)
       where
@@ -238,7 +236,7 @@ counted_other blocks counts j n c h = first-same (pinned blocks (set counts j n)
 ])
 
 -- the block of another buffer
-pub release_stays : (t : Table) (j : ℕ) (a : After) → WellFormed t → ReleaseGives t j a → (c : ℕ) → get_or t.blocks j 0 ≢ c → (memory : Bytes) → Stays t memory a.table memory c
+pub release_stays : (t : Table) (j : ℕ) (a : After Unit) → WellFormed t → ReleaseGives t j a → (c : ℕ) → get_or t.blocks j 0 ≢ c → (memory : Bytes) → Stays t memory a.table memory c
 release_stays t j a w (inl g) c n memory = absurd (g.0 w)
 release_stays t j a w (inr (h1, inl g)) c n memory = rw g.1 (same_memory t t c refl memory)
 release_stays t j a w (inr (h1, inr (h2, inl g))) c n memory = rw g.1 (same_memory t t c refl memory)
@@ -259,7 +257,7 @@ module _ (t : Table) (w : WellFormed t) (j n : ℕ) (low : j < 30) (had : 0 < ge
   count-seen : (memory image : Bytes) → seen_through (with_count t j n) memory image ≡ seen_through t memory image
   count-seen memory image = seen_counted t.blocks t.counts (set t.counts j n) j n had some is_set_bit memory image
 
-pub pin_stays : (t : Table) (j : ℕ) (a : After) → WellFormed t → PinGives t j a → (c : ℕ) (memory : Bytes) → Stays t memory a.table memory c
+pub pin_stays : (t : Table) (j : ℕ) (a : After Unit) → WellFormed t → PinGives t j a → (c : ℕ) (memory : Bytes) → Stays t memory a.table memory c
 pin_stays t j a w (inl g) c memory = absurd (g.0 w)
 pin_stays t j a w (inr (h1, inl g)) c memory = rw g.1 (same_memory t t c refl memory)
 pin_stays t j a w (inr (h1, inr (h2, inl g))) c memory = rw g.1 (same_memory t t c refl memory)
@@ -267,7 +265,7 @@ pin_stays t j a w (inr (h1, inr (h2, inr (h3, inl g)))) c memory = rw g.1 (same_
 pin_stays t j a w (inr (h1, inr (h2, inr (h3, inr (h4, g))))) c memory =
     rw g.is (count_stays t w j (get_or t.counts j 0 + 1) (omega (arith, h2)) (omega (arith, h3)) (omega arith) c memory)
 
-pub unpin_stays : (t : Table) (j : ℕ) (a : After) → WellFormed t → UnpinGives t j a → (c : ℕ) (memory : Bytes) → Stays t memory a.table memory c
+pub unpin_stays : (t : Table) (j : ℕ) (a : After Unit) → WellFormed t → UnpinGives t j a → (c : ℕ) (memory : Bytes) → Stays t memory a.table memory c
 unpin_stays t j a w (inl g) c memory = absurd (g.0 w)
 unpin_stays t j a w (inr (h1, inl g)) c memory = rw g.1 (same_memory t t c refl memory)
 unpin_stays t j a w (inr (h1, inr (h2, inl g))) c memory = rw g.1 (same_memory t t c refl memory)
@@ -335,7 +333,7 @@ count_unseen t w j n low had some memory image = record {
   clean = count_clean t w j n low memory image (λ z. absurd (omega arith));
 }
 
-pub pin_unseen : (t : Table) (j : ℕ) (a : After) → WellFormed t → PinGives t j a → (memory image : Bytes) → Unseen t a.table memory image
+pub pin_unseen : (t : Table) (j : ℕ) (a : After Unit) → WellFormed t → PinGives t j a → (memory image : Bytes) → Unseen t a.table memory image
 pin_unseen t j a w (inl g) memory image = absurd (g.0 w)
 pin_unseen t j a w (inr (h1, inl g)) memory image = rw g.1 (unchanged t memory image)
 pin_unseen t j a w (inr (h1, inr (h2, inl g))) memory image = rw g.1 (unchanged t memory image)
@@ -343,7 +341,7 @@ pin_unseen t j a w (inr (h1, inr (h2, inr (h3, inl g)))) memory image = rw g.1 (
 pin_unseen t j a w (inr (h1, inr (h2, inr (h3, inr (h4, g))))) memory image =
     rw g.is (count_unseen t w j (get_or t.counts j 0 + 1) (omega (arith, h2)) (omega (arith, h3)) (omega arith) memory image)
 
-pub unpin_unseen : (t : Table) (j : ℕ) (a : After) → WellFormed t → UnpinGives t j a → (memory image : Bytes) → Unseen t a.table memory image
+pub unpin_unseen : (t : Table) (j : ℕ) (a : After Unit) → WellFormed t → UnpinGives t j a → (memory image : Bytes) → Unseen t a.table memory image
 unpin_unseen t j a w (inl g) memory image = absurd (g.0 w)
 unpin_unseen t j a w (inr (h1, inl g)) memory image = rw g.1 (unchanged t memory image)
 unpin_unseen t j a w (inr (h1, inr (h2, inl g))) memory image = rw g.1 (unchanged t memory image)
@@ -351,7 +349,7 @@ unpin_unseen t j a w (inr (h1, inr (h2, inr (h3, g)))) memory image =
     rw g.is (count_unseen t w j (get_or t.counts j 0 - 1) (omega (arith, h2)) (omega (arith, h3)) (omega (arith, h3)) memory image)
 
 -- a release, where the buffer has a block, with the image's bytes if the reference is the last
-pub release_unseen : (t : Table) (j : ℕ) (a : After) → WellFormed t → ReleaseGives t j a → (memory image : Bytes) → get_or t.blocks j 0 < none
+pub release_unseen : (t : Table) (j : ℕ) (a : After Unit) → WellFormed t → ReleaseGives t j a → (memory image : Bytes) → get_or t.blocks j 0 < none
     → (get_or t.counts j 0 ≡ 1 → (i : ℕ) → i < 1024 → memory (j * 1024 + i) ≡ image (get_or t.blocks j 0 * 1024 + i))
     → Unseen t a.table memory image
 release_unseen t j a w (inl g) memory image real same = absurd (g.0 w)

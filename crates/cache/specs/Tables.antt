@@ -1,4 +1,4 @@
--- Tables of the cache: which are well-formed (document 01's row 1), and the tables that the calls leave. Assumes nothing.
+-- Tables of the cache: which are well-formed, and the tables that the calls leave. Assumes nothing.
 use Rattle.std.specs.Prelude.{◌≡◌, cond, List, ℕ, ◌+◌, ◌-◌, ◌*◌, ◌≤◌, ◌<◌, get_or, length, set, eqb, ltb}
 use Rattle.std.proofs.Common.{lt-ltb, le-ltb, ne_eqb}
 use Rattle.base.specs.First.{first}

@@ -5,16 +5,60 @@
 // they are compared too.
 #![tactic(auto)]
 
-ghost use Rattle.std.specs.Prelude.{◌≡◌, ℕ, ◌+◌, ◌*◌, ◌<◌, ◌≤◌, length};
+ghost use Rattle.std.specs.Prelude.{◌≤◌, length, IfOk};
 
+use base::Refusal;
 use bio::Table;
-use cache::{After, Answer};
+use cache::After;
+use std::io;
+use std::io::Read;
 
-// A number of the text, and the place behind it.
+// The numbers of a text, one after the other. What is no digit stands between them.
+#[derive(Drop)]
+struct Numbers<'a> {
+    rest: &'a [u8],
+}
+
+impl Numbers<'_> {
+    // The next number, of as many digits as fit; 0 at the text's end.
+    fn take(&mut self) -> u32 {
+        let start = self
+            .rest
+            .iter()
+            .position(|c| b'0' <= *c)
+            .unwrap_or(self.rest.len());
+        let digits = &self.rest[start..];
+        let mut value: u32 = 0;
+        let mut end = digits.len();
+        for i in 0..digits.len() {
+            if !digits[i].is_ascii_digit() {
+                end = i;
+                break;
+            }
+            if value < 1000000 {
+                value = 10 * value + (digits[i] - b'0') as u32;
+            }
+        }
+        self.rest = &digits[end..];
+        value
+    }
+}
+
+#[derive(Clone, Copy, PartialEq, Eq)]
+enum Op {
+    Get,
+    Release,
+    Pin,
+    Unpin,
+}
+
+// A line of the list.
 #[derive(Clone, Copy)]
-struct Token {
-    value: u32,
-    next: usize,
+struct Step {
+    op: Op,
+    arg: u32,
+    answer: u32,
+    order: [u32; 30],
 }
 
 #[derive(Clone, Copy)]
@@ -23,199 +67,111 @@ struct Tally {
     differences: u32,
 }
 
-// The first digit at a place or after it.
-fn digit_from(s: &[u8], at: usize) -> usize {
-    let mut i = at;
-    while i < s.len() {
-        if 48 <= s[i] {
-            return i;
-        }
-        i += 1;
+// What is to be done; None at the list's end.
+fn op_of(number: u32) -> Option<Op> {
+    match number {
+        0 => None,
+        1 => Some(Op::Get),
+        2 => Some(Op::Release),
+        3 => Some(Op::Pin),
+        _ => Some(Op::Unpin),
     }
-    i
 }
 
-// The number at a place, of as many digits as fit.
-fn number_from(s: &[u8], at: usize) -> Token
-    ensures { result.value < 10000000 }
-{
-    let mut v: u32 = 0;
-    let mut i = at;
-    while i < s.len() {
-        let c = s[i];
-        if c < 48 {
-            return Token { value: v, next: i };
-        }
-        if 57 < c {
-            return Token { value: v, next: i };
-        }
-        if v < 1000000 {
-            v = 10 * v + digit(c);
-        }
-        i += 1;
+fn next_step(numbers: &mut Numbers<'_>) -> Option<Step> {
+    let op = op_of(numbers.take())?;
+    let arg = numbers.take();
+    let answer = numbers.take();
+    let mut order = [0; 30];
+    for number in &mut order {
+        *number = numbers.take();
     }
-    Token { value: v, next: i }
+    Some(Step {
+        op,
+        arg,
+        answer,
+        order,
+    })
 }
 
-fn digit(c: u8) -> u32
-    requires { (48 ≤ c) × (c ≤ 57) }
-    ensures { result < 10 }
-{
-    (c - 48) as u32
-}
-
-// The next number of the text, 0 at its end.
-fn next_number(s: &[u8], at: usize) -> Token
-    ensures { result.value < 10000000 }
-{
-    number_from(s, digit_from(s, at))
-}
-
-// Whether the next 30 numbers are the order (1) or not (0).
-fn same_order(order: &[u32; 30], s: &[u8], at: usize) -> Token {
-    let mut same: u32 = 1;
-    let mut next = at;
-    let mut i = 0;
-    while i < 30 {
-        let t = next_number(s, next);
-        if t.value != order[i] {
-            same = 0;
-        }
-        next = t.next;
-        i += 1;
-    }
-    Token {
-        value: same,
-        next: next,
+// The step on the cache. A release, a pin or an unpin answers the buffer that it is of.
+fn take(table: Table, memory: &mut [u8], image: &[u8], step: &Step) -> After<usize> {
+    let index = step.arg as usize;
+    let after = match step.op {
+        Op::Get => return cache::get(table, memory, image, step.arg),
+        Op::Release => cache::release(table, index),
+        Op::Pin => cache::pin(table, index),
+        Op::Unpin => cache::unpin(table, index),
+    };
+    After {
+        table: after.table,
+        answer: after.answer.map(|()| index),
     }
 }
 
 // Whether buffer j has the bytes of block b.
-fn has_block(memory: &[u8], j: u32, b: u32) -> bool {
-    let p = bio::part(memory, base::place(j) * 1024);
-    let mut i = 0;
-    while i < p.len() {
-        if wide(p[i]) != b {
-            return false;
+fn has_block(memory: &[u8], j: usize, b: u32) -> bool {
+    j < 30 && bio::part(memory, j * 1024).iter().all(|x| *x as u32 == b)
+}
+
+// Whether a step went as the list says: the answer, where the Rust panics a get without a free buffer and any other bad call (256 stands for what
+// it never answers); after a get the bytes; and the order.
+fn as_listed(step: &Step, after: &After<usize>, memory: &[u8]) -> bool {
+    let answered = match after.answer {
+        Ok(j) => {
+            j == step.answer as usize && (step.op != Op::Get || has_block(memory, j, step.arg))
         }
-        i += 1;
-    }
-    true
+        Err(Refusal::NoBuffer) => step.answer == if step.op == Op::Get { 255 } else { 256 },
+        Err(Refusal::BadCall) => step.answer == if step.op == Op::Get { 256 } else { 255 },
+        Err(_) => step.answer == 256,
+    };
+    answered && after.table.order == step.order
 }
 
-fn wide(x: u8) -> u32 {
-    x as u32
-}
-
-// One step.
-fn step(t: Table, memory: &mut [u8], image: &[u8], op: u32, arg: u32) -> After {
-    if op == 1 {
-        return cache::get(t, memory, image, arg);
-    }
-    let j = base::place(arg);
-    if op == 2 {
-        return cache::release(t, j);
-    }
-    if op == 3 {
-        return cache::pin(t, j);
-    }
-    cache::unpin(t, j)
-}
-
-// An answer as the list has it: 255 where the Rust panics, which is 16 for a get and 2 for the others.
-fn code(a: Answer, op: u32, arg: u32) -> u32 {
-    match a {
-        Answer::Buffer(j) => if j < 30 { base::small(j) } else { 256 },
-        Answer::Done => arg,
-        Answer::Refused(r) => panicked(op, base::number_of(r)),
-    }
-}
-
-fn panicked(op: u32, n: u32) -> u32 {
-    if op == 1 {
-        if n == 16 {
-            return 255;
-        }
-        return 256;
-    }
-    if n == 2 {
-        return 255;
-    }
-    256
-}
-
-// Whether a step went as the list says: the answer, the order behind it, and after a get the bytes.
-fn as_listed(memory: &[u8], op: u32, arg: u32, answer: u32, code: u32, same: u32) -> bool {
-    if code != answer {
-        return false;
-    }
-    if same == 0 {
-        return false;
-    }
-    if op == 1 {
-        if answer < 30 {
-            return has_block(memory, answer, arg);
-        }
-    }
-    true
-}
-
-fn replay(s: &[u8], memory: &mut [u8], image: &[u8]) -> Tally {
-    let mut table = bio::fresh();
-    let mut at = 0;
-    let mut steps: u32 = 0;
+// The first 1,000 steps of the list.
+fn replay(text: &[u8], memory: &mut [u8], image: &[u8]) -> Tally {
+    let mut numbers = Numbers { rest: text };
+    let mut table = Table::fresh();
     let mut differences: u32 = 0;
-    while steps < 1000 {
-        let op = next_number(s, at);
-        if op.value == 0 {
-            return Tally {
-                steps: steps,
-                differences: differences,
-            };
+    for steps in 0..1000 {
+        let Some(step) = next_step(&mut numbers) else {
+            return Tally { steps, differences };
+        };
+        let after = take(table, memory, image, &step);
+        if !as_listed(&step, &after, memory) {
+            differences = differences.saturating_add(1);
         }
-        let arg = next_number(s, op.next);
-        let answer = next_number(s, arg.next);
-        let after = step(table, memory, image, op.value, arg.value);
-        let a = after.answer;
         table = after.table;
-        let same = same_order(&table.order, s, answer.next);
-        if !as_listed(
-            memory,
-            op.value,
-            arg.value,
-            answer.value,
-            code(a, op.value, arg.value),
-            same.value,
-        ) {
-            differences += 1;
-        }
-        at = same.next;
-        steps += 1;
     }
     Tally {
-        steps: steps,
-        differences: differences,
+        steps: 1000,
+        differences,
     }
 }
 
-// Byte i is i / 1024.
-fn number_blocks(image: &mut [u8]) {
-    let mut i = 0;
-    while i < image.len() {
-        image[i] = (i / 1024 % 256) as u8;
-        i += 1;
+// Reads until the input ends or the buffer is full; how many bytes came.
+fn read_all(input: &mut impl Read, buffer: &mut [u8]) -> io::Result<usize>
+    ensures { IfOk result (λ n. n ≤ length buffer.old) }
+{
+    let mut n = 0;
+    for _ in 0..buffer.len() {
+        let got = input.read(&mut buffer[n..])?;
+        if got == 0 {
+            break;
+        }
+        n += got;
     }
+    Ok(n)
 }
 
-fn main() {
-    let mut text = io::large_buffer();
-    let n = io::read_full(0, &mut text);
-    let mut image = io::large_buffer();
-    number_blocks(&mut image);
-    let mut memory = [0u8; 30720];
-    let tally = replay(&text[..n], &mut memory, &image);
-    io::print_decimal(1, tally.steps as u64);
-    io::write_all(1, b" steps, ");
-    io::print_decimal(1, tally.differences as u64);
-    io::write_all(1, b" differences\n");
+fn main(rt: HostRuntime) -> io::Result<()> {
+    let mut buffer = [0; 65536];
+    let n = read_all(&mut rt.reader(), &mut buffer)?;
+    let mut image = [0; 65536];
+    for i in 0..65536 {
+        image[i] = (i / 1024) as u8;
+    }
+    let mut memory = [0; 30720];
+    let tally = replay(&buffer[..n], &mut memory, &image);
+    println!(rt; "{} steps, {} differences", tally.steps, tally.differences)
 }

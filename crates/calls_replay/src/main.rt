@@ -1,67 +1,31 @@
 // Replays calls on small cards: reads a script on standard input, one call a line, and writes one answer a line.
 //
 // The language is that of the comparison programs (oracle/README.md), as far as these calls go: mkfs, poke, mount, open, cwd, close, read,
-// stat and slots. The cards have 64 blocks at most. A refusal is `no N` with document 01's number.
+// stat and slots. The cards have 64 blocks at most. A refusal is `no N` with its number.
 #![tactic(auto)]
 
 ghost use Rattle.std.specs.Prelude.{◌≤◌, ◌<◌, ◌≡◌, length};
 
-use state::{Handle, Volume};
-use volume::{Closing, Opening, Reading, Stating};
+use base::Refusal;
+use state::{Handle, Slots, Volume};
+use std::alloc::Global;
+use std::io::{self, Read};
+use transactions::Written;
+use volume::Facts;
 
-// Standard input's and output's numbers.
-const STDIN_FILENO: i32 = 0;
-
-const STDOUT_FILENO: i32 = 1;
-
-// The volume, and the handles given since mount; `from` is the number of the one that a relative path starts at.
-#[derive(Clone, Copy)]
+// The volume, and the handles given since mount, 64 at most; `from` is the number of the one that a relative path starts at.
+#[derive(Drop)]
 struct Session {
     volume: Volume,
-    slots: [u32; 64],
-    inums: [u32; 64],
-    given: usize,
+    handles: Vec<Handle>,
     from: usize,
 }
 
 // ---- words of a line
 
-fn word_start(line: &[u8], k: usize, sep: u8) -> usize
-    ensures { result ≤ length line.now }
-{
-    let mut i: usize = 0;
-    let mut left = k;
-    while i < line.len() {
-        if left == 0 {
-            return i;
-        }
-        if line[i] == sep {
-            left -= 1;
-        }
-        i += 1;
-    }
-    i
-}
-
-fn word_end(line: &[u8], start: usize, sep: u8) -> usize
-    requires { start ≤ length line.now }
-    ensures { (start ≤ result) × (result ≤ length line.now) }
-{
-    let mut i = start;
-    while i < line.len() {
-        if line[i] == sep {
-            return i;
-        }
-        i += 1;
-    }
-    i
-}
-
 // Word k of a line, empty where there is none.
 fn word(line: &[u8], k: usize, sep: u8) -> &[u8] {
-    let a = word_start(line, k, sep);
-    let e = word_end(line, a, sep);
-    &line[a..e]
+    line.split(|x| *x == sep).nth(k).unwrap_or(&line[..0])
 }
 
 // A decimal number, as far as its digits go; what follows a ninth digit is not read.
@@ -69,20 +33,11 @@ fn number(w: &[u8]) -> usize
     ensures { result < 1000000000 }
 {
     let mut v: usize = 0;
-    let mut i: usize = 0;
-    while i < w.len() {
-        let x = w[i];
-        if x < b'0' {
+    for x in w {
+        if !x.is_ascii_digit() || 100000000 <= v {
             return v;
         }
-        if b'9' < x {
-            return v;
-        }
-        if 100000000 <= v {
-            return v;
-        }
-        v = 10 * v + base::place((x - b'0') as u32);
-        i += 1;
+        v = 10 * v + (*x - b'0') as usize;
     }
     v
 }
@@ -93,452 +48,319 @@ fn num(line: &[u8], k: usize) -> usize
     number(word(line, k, b' '))
 }
 
-fn hex_digit(x: u8) -> u8 {
-    if x < b'0' {
-        return 0;
+fn num32(line: &[u8], k: usize) -> u32 {
+    num(line, k) as u32
+}
+
+fn hex_digit(x: u8) -> u8
+    ensures { result < 16 }
+{
+    match x {
+        b'0'..=b'9' => x - b'0',
+        b'a'..=b'f' => x - b'a' + 10,
+        _ => 0,
     }
-    if x <= b'9' {
-        return x - b'0';
-    }
-    if x < b'a' {
-        return 0;
-    }
-    if x <= b'f' {
-        return x - b'a' + 10;
-    }
-    0
 }
 
 // ---- what is written
 
-fn say(words: &[u8]) {
-    io::write_all(STDOUT_FILENO, words);
+fn say_refusal(rt: &impl Print, why: Refusal) -> io::Result<()> {
+    println!(rt; "no {}", why.number())
 }
 
-fn say_number(n: usize) {
-    io::print_decimal(STDOUT_FILENO, n as u64);
-}
-
-fn say_refusal(r: base::Refusal) {
-    say(b"no ");
-    say_number(base::place(base::number_of(r)));
-    say(b"\n");
-}
-
-fn say_hex(x: u8) {
-    let mut text = [0u8; 16];
-    let k = io::hex(x as u64, 2, &mut text);
-    say(&text[..k]);
-}
-
-// The first n bytes, `-` for none.
-fn say_bytes(s: &[u8], n: usize) {
-    if n == 0 {
-        say(b"-");
+// The bytes, `-` for none.
+fn say_bytes(rt: &impl Print, s: &[u8]) -> io::Result<()> {
+    if s.is_empty() {
+        return print!(rt; "-");
     }
-    let mut i: usize = 0;
-    while i < n {
-        say_hex(base::get(s, i));
-        i += 1;
+    for x in s {
+        print!(rt; "{x:02x}")?;
     }
+    Ok(())
 }
 
-// Whether a byte from n on is no longer the 170 that the buffer was filled with.
-fn touched(s: &[u8], n: usize) -> bool {
-    let mut i = n;
-    while i < s.len() {
-        if s[i] != 170 {
-            return true;
-        }
-        i += 1;
-    }
-    false
+// Whether a byte is no longer the 170 that the buffer was filled with.
+fn touched(s: &[u8]) -> bool {
+    s.iter().any(|x| *x != 170)
 }
 
 // ---- the card
 
 // The byte i past a, where the card has it.
 fn put_byte(image: &mut [u8], a: usize, i: usize, x: u8) {
-    if a < image.len() {
-        if i < image.len() - a {
-            image[a + i] = x;
-        }
+    if a < image.len() && i < image.len() - a {
+        image[a + i] = x;
     }
-}
-
-// Two hex digits as a byte.
-fn hex_byte(high: u8, low: u8) -> u8 {
-    hex_digit(high) % 16 * 16 + hex_digit(low) % 16
 }
 
 // The hex digits of a word, at most 1,024, to the card from a on.
 fn put_hex(image: &mut [u8], a: usize, w: &[u8]) {
-    let n = base::smaller(w.len() / 2, 512);
-    let mut i: usize = 0;
-    while i < n {
+    let n = (w.len() / 2).min(512);
+    for i in 0..n {
         put_byte(
             image,
             a,
             i,
-            hex_byte(
-                base::get_past(w, i, i),
-                base::get_past(base::from(w, 1), i, i),
-            ),
+            hex_digit(w[2 * i]) * 16 + hex_digit(w[2 * i + 1]),
         );
-        i += 1;
     }
 }
 
 // n bytes of the pattern of seed s: byte i is (31 s + 7 i + i / 256) mod 256.
 fn put_pattern(image: &mut [u8], a: usize, s: usize, n: usize) {
-    let mut i: usize = 0;
-    while i < n {
+    for i in 0..n {
         put_byte(
             image,
             a,
             i,
             ((31 * (s % 256) + 7 * (i % 256) + i / 256) % 256) as u8,
         );
-        i += 1;
     }
 }
 
-// Hex digits, or p:SEED:COUNT.
-fn put_data(image: &mut [u8], a: usize, w: &[u8]) {
-    let x = base::get(w, 0);
-    if x == b'p' {
+// poke BLOCK OFFSET DATA, where the data are hex digits, or p:SEED:COUNT
+fn poke(rt: &impl Print, image: &mut [u8], line: &[u8]) -> io::Result<()> {
+    let a = num(line, 1) * 1024 + num(line, 2);
+    let w = word(line, 3, b' ');
+    if base::get(w, 0) == b'p' {
         put_pattern(image, a, number(word(w, 1, b':')), number(word(w, 2, b':')));
-        return;
+    } else {
+        put_hex(image, a, w);
     }
-    put_hex(image, a, w);
-}
-
-// poke BLOCK OFFSET DATA
-fn poke(image: &mut [u8], line: &[u8]) {
-    put_data(
-        image,
-        num(line, 1) * 1024 + num(line, 2),
-        word(line, 3, b' '),
-    );
-    say(b"ok\n");
+    println!(rt; "ok")
 }
 
 // ---- the calls
 
 // A volume as mount left it, with no handle given.
-fn started(v: Volume) -> Session {
+fn started(alloc: Global, volume: Volume) -> Session {
     Session {
-        volume: v,
-        slots: [50; 64],
-        inums: [0; 64],
-        given: 0,
+        volume,
+        handles: Vec::new(alloc),
         from: 64,
     }
 }
 
 // Before the first mount: that of a card with no superblock gives a volume that answers 1.
-fn unmounted(cache: &[u8]) -> Session {
+fn unmounted(alloc: Global, cache: &[u8]) -> Session {
     let mut none = [0u8; 1];
     let after = transactions::mount(&mut none, cache, 0);
-    started(after.volume)
+    started(alloc, after.volume)
 }
 
 // mkfs SIZE NINODES NLOG
-fn mkfs(image: &mut [u8], line: &[u8]) {
-    match format::format(
-        image,
-        base::small(num(line, 1)),
-        base::small(num(line, 2)),
-        base::small(num(line, 3)),
-    ) {
-        format::Answer::Done => {
+fn mkfs(rt: &impl Print, image: &mut [u8], line: &[u8]) -> io::Result<()> {
+    match format::format(image, num32(line, 1), num32(line, 2), num32(line, 3)) {
+        Ok(()) => {
             let s = superblock::super_of(image);
-            say(b"ok inodestart ");
-            say_number(base::place(s.inodestart));
-            say(b" bmapstart ");
-            say_number(base::place(s.bmapstart));
-            say(b" data ");
-            say_number(base::place(s.bmapstart) + base::place(s.size) / 8192 + 1);
-            say(b" nblocks ");
-            say_number(base::place(s.nblocks));
-            say(b"\n");
+            let data = s.bmapstart as u64 + s.size as u64 / 8192 + 1;
+            println!(rt;
+                "ok inodestart {} bmapstart {} data {data} nblocks {}",
+                s.inodestart, s.bmapstart, s.nblocks
+            )
         }
-        format::Answer::Refused(r) => say_refusal(r),
+        Err(why) => say_refusal(rt, why),
     }
 }
 
 // mount: with all the writes that a recovery can take
-fn mount(image: &mut [u8], cache: &[u8]) -> Session {
+fn mount(rt: &impl Print, s: &mut Session, image: &mut [u8], cache: &[u8]) -> io::Result<()> {
     let after = transactions::mount(image, cache, 30);
-    let answer = after.answer;
-    match answer {
-        transactions::Answer::Done(w) => {
-            say(b"ok writes ");
-            say_number(w);
-            say(b"\n");
-        }
-        transactions::Answer::Cut(w) => {
-            say(b"cut ");
-            say_number(w);
-            say(b"\n");
-        }
-        transactions::Answer::Refused(r) => say_refusal(r),
+    s.volume = after.volume;
+    s.handles.clear();
+    s.from = 64;
+    match after.answer {
+        Ok(Written::All(w)) => println!(rt; "ok writes {w}"),
+        Ok(Written::Cut(w)) => println!(rt; "cut {w}"),
+        Err(why) => say_refusal(rt, why),
     }
-    started(after.volume)
 }
 
 // Handle k of those given; one that was not is no good.
-fn nth<'b>(slots: &'b [u32; 64], inums: &'b [u32; 64], given: usize, k: usize) -> Handle {
-    if k < 64 {
-        if k < given {
-            return Handle {
-                slot: slots[k],
-                inum: inums[k],
-            };
-        }
-    }
-    Handle { slot: 50, inum: 0 }
-}
-
-fn with_volume(s: Session, v: Volume) -> Session {
-    let mut t = s;
-    t.volume = v;
-    t
-}
-
-fn with_handle(s: Session, h: Handle) -> Session {
-    let k = s.given;
-    if 64 <= k {
-        return s;
-    }
-    let mut t = s;
-    t.slots[k] = h.slot;
-    t.inums[k] = h.inum;
-    t.given = k + 1;
-    t
+fn nth(handles: &[Handle], k: usize) -> Handle {
+    handles
+        .get(k)
+        .copied()
+        .unwrap_or(Handle { slot: 50, inum: 0 })
 }
 
 // The path that a word gives: '' is the empty one.
 fn path_of(w: &[u8]) -> &[u8] {
-    let x = base::get(w, 0);
-    if x == 39 {
-        return &w[..0];
-    }
-    w
-}
-
-fn say_handle(k: usize, h: Handle) {
-    say(b"ok h ");
-    say_number(k);
-    say(b" inode ");
-    say_number(base::place(h.inum));
-    say(b" slot ");
-    say_number(base::place(h.slot));
-    say(b"\n");
+    if base::get(w, 0) == b'\'' { &w[..0] } else { w }
 }
 
 // open PATH
-fn open<'a>(s: Session, image: &'a [u8], cache: &'a [u8], line: &[u8]) -> Session {
-    let h = nth(&s.slots, &s.inums, s.given, s.from);
-    let v = s.volume;
-    let a = volume::open(v, image, cache, path_of(word(line, 1, b' ')), h);
-    let next = a.volume;
-    let t = with_volume(s, next);
-    let answer = a.answer;
-    match answer {
-        Opening::Done(g) => {
-            say_handle(t.given, g);
-            with_handle(t, g)
+fn open(
+    rt: &impl Print,
+    s: &mut Session,
+    image: &[u8],
+    cache: &[u8],
+    line: &[u8],
+) -> io::Result<()> {
+    let h = nth(&s.handles, s.from);
+    let after = volume::open(s.volume, image, cache, path_of(word(line, 1, b' ')), h);
+    s.volume = after.volume;
+    match after.answer {
+        Ok(g) => {
+            println!(rt; "ok h {} inode {} slot {}", s.handles.len(), g.inum, g.slot)?;
+            if s.handles.len() < 64 {
+                s.handles.push(g)?;
+            }
+            Ok(())
         }
-        Opening::Refused(r) => {
-            say_refusal(r);
-            t
-        }
+        Err(why) => say_refusal(rt, why),
     }
 }
 
 // close H
-fn close(s: Session, image: &[u8], line: &[u8]) -> Session {
-    let h = nth(&s.slots, &s.inums, s.given, num(line, 1));
-    let v = s.volume;
-    let a = volume::close(v, image, h);
-    let next = a.volume;
-    let answer = a.answer;
-    match answer {
-        Closing::Done => say(b"ok\n"),
-        Closing::Refused(r) => say_refusal(r),
+fn close(rt: &impl Print, s: &mut Session, image: &[u8], line: &[u8]) -> io::Result<()> {
+    let h = nth(&s.handles, num(line, 1));
+    let after = volume::close(s.volume, image, h);
+    s.volume = after.volume;
+    match after.answer {
+        Ok(()) => println!(rt; "ok"),
+        Err(why) => say_refusal(rt, why),
     }
-    with_volume(s, next)
 }
 
 // read H OFFSET N, into a lent buffer of 64 bytes that are all 170
-fn read<'a>(s: Session, image: &'a [u8], cache: &'a [u8], line: &[u8]) -> Session {
-    let h = nth(&s.slots, &s.inums, s.given, num(line, 1));
-    let v = s.volume;
+fn read(
+    rt: &impl Print,
+    s: &mut Session,
+    image: &[u8],
+    cache: &[u8],
+    line: &[u8],
+) -> io::Result<()> {
+    let h = nth(&s.handles, num(line, 1));
     let mut buffer = [170u8; 64];
-    let a = volume::read(v, image, cache, h, num(line, 2), num(line, 3), &mut buffer);
-    let next = a.volume;
-    let answer = a.answer;
-    match answer {
-        Reading::Done(n) => {
-            say(b"ok ");
-            say_number(n);
-            say(b" ");
-            say_bytes(&buffer, n);
-            if touched(&buffer, n) {
-                say(b" TOUCHED");
-            }
-            say(b"\n");
+    let after = volume::read(
+        s.volume,
+        image,
+        cache,
+        h,
+        num(line, 2),
+        num(line, 3),
+        &mut buffer,
+    );
+    s.volume = after.volume;
+    match after.answer {
+        Ok(n) => {
+            let n = n.min(64);
+            print!(rt; "ok {n} ")?;
+            say_bytes(rt, &buffer[..n])?;
+            println!(rt;
+                "{}",
+                if touched(&buffer[n..]) {
+                    " TOUCHED"
+                } else {
+                    ""
+                }
+            )
         }
-        Reading::Refused(r) => {
-            if touched(&buffer, 0) {
-                say(b"TOUCHED ");
+        Err(why) => {
+            if touched(&buffer) {
+                print!(rt; "TOUCHED ")?;
             }
-            say_refusal(r);
+            say_refusal(rt, why)
         }
     }
-    with_volume(s, next)
 }
 
 // The link counts of these cards.
-fn say_links(n: i16) {
-    if n == -1 {
-        say(b"-1");
-        return;
+fn links(n: i16) -> &'static str {
+    match n {
+        -1 => "-1",
+        1 => "1",
+        2 => "2",
+        _ => "another",
     }
-    if n == 1 {
-        say(b"1");
-        return;
-    }
-    if n == 2 {
-        say(b"2");
-        return;
-    }
-    say(b"another");
 }
 
 // stat H
-fn stat<'a>(s: Session, image: &'a [u8], cache: &'a [u8], line: &[u8]) -> Session {
-    let h = nth(&s.slots, &s.inums, s.given, num(line, 1));
-    let v = s.volume;
-    let a = volume::stat(v, image, cache, h);
-    let next = a.volume;
-    let answer = a.answer;
-    match answer {
-        Stating::Done { kind, nlink, size } => {
-            say(b"ok inode ");
-            say_number(base::place(h.inum));
-            say(b" kind ");
-            say_number(base::place(kind as u32));
-            say(b" nlink ");
-            say_links(nlink);
-            say(b" size ");
-            say_number(base::place(size));
-            say(b"\n");
+fn stat(
+    rt: &impl Print,
+    s: &mut Session,
+    image: &[u8],
+    cache: &[u8],
+    line: &[u8],
+) -> io::Result<()> {
+    let h = nth(&s.handles, num(line, 1));
+    let after = volume::stat(s.volume, image, cache, h);
+    s.volume = after.volume;
+    match after.answer {
+        Ok(Facts { kind, nlink, size }) => {
+            println!(rt;
+                "ok inode {} kind {kind} nlink {} size {size}",
+                h.inum,
+                links(nlink)
+            )
         }
-        Stating::Refused(r) => say_refusal(r),
+        Err(why) => say_refusal(rt, why),
     }
-    with_volume(s, next)
 }
 
 // The slots in use: slot, inode, references.
-fn say_slots<'b>(inums: &'b [u32; 50], refs: &'b [u32; 50]) {
-    say(b"ok");
+fn say_slots(rt: &impl Print, slots: &Slots) -> io::Result<()> {
+    print!(rt; "ok")?;
     let mut none = true;
-    let mut k: usize = 0;
-    while k < 50 {
-        if refs[k] != 0 {
+    for k in 0..50 {
+        if slots.refs[k] != 0 {
             none = false;
-            say(b" ");
-            say_number(k);
-            say(b":");
-            say_number(base::place(inums[k]));
-            say(b"*");
-            say_number(base::place(refs[k]));
+            print!(rt; " {k}:{}*{}", slots.inums[k], slots.refs[k])?;
         }
-        k += 1;
     }
-    if none {
-        say(b" -");
-    }
-    say(b"\n");
+    println!(rt; "{}", if none { " -" } else { "" })
 }
 
-fn cwd(s: Session, line: &[u8]) -> Session {
-    let mut t = s;
-    t.from = num(line, 1);
-    say(b"ok\n");
-    t
+// cwd H
+fn cwd(rt: &impl Print, s: &mut Session, line: &[u8]) -> io::Result<()> {
+    s.from = num(line, 1);
+    println!(rt; "ok")
 }
 
 // ---- the script
 
-fn step(s: Session, image: &mut [u8], cache: &[u8], line: &[u8]) -> Session {
-    let a = base::get(line, 0);
-    let b = base::get(line, 1);
-    if a == b'o' {
-        return open(s, image, cache, line);
-    }
-    if a == b'r' {
-        return read(s, image, cache, line);
-    }
-    if a == b'c' {
-        if b == b'l' {
-            return close(s, image, line);
-        }
-        return cwd(s, line);
-    }
-    if a == b's' {
-        if b == b't' {
-            return stat(s, image, cache, line);
-        }
-        say_slots(&s.volume.slots.inums, &s.volume.slots.refs);
-        return s;
-    }
-    if a == b'p' {
-        poke(image, line);
-        return s;
-    }
-    if a == b'm' {
-        if b == b'o' {
-            return mount(image, cache);
-        }
-        mkfs(image, line);
-    }
-    s
-}
-
-// Where the line that starts at a ends.
-fn line_end(text: &[u8], a: usize) -> usize
-    requires { a ≤ length text.now }
-    ensures { (a ≤ result) × (result ≤ length text.now) }
-{
-    word_end(text, a, b'\n')
-}
-
-fn replay(text: &[u8], image: &mut [u8], cache: &[u8]) {
-    let mut s = unmounted(cache);
-    let mut at: usize = 0;
-    while at < text.len() {
-        let e = line_end(text, at);
-        s = step(s, image, cache, &text[at..e]);
-        if text.len() <= e {
-            return;
-        }
-        at = e + 1;
+// A line is known by its first one or two letters; one that is not known does nothing.
+fn step(
+    rt: &impl Print,
+    s: &mut Session,
+    image: &mut [u8],
+    cache: &[u8],
+    line: &[u8],
+) -> io::Result<()> {
+    match (base::get(line, 0), base::get(line, 1)) {
+        (b'o', _) => open(rt, s, image, cache, line),
+        (b'r', _) => read(rt, s, image, cache, line),
+        (b'c', b'l') => close(rt, s, image, line),
+        (b'c', _) => cwd(rt, s, line),
+        (b's', b't') => stat(rt, s, image, cache, line),
+        (b's', _) => say_slots(rt, &s.volume.slots),
+        (b'p', _) => poke(rt, image, line),
+        (b'm', b'o') => mount(rt, s, image, cache),
+        (b'm', _) => mkfs(rt, image, line),
+        _ => Ok(()),
     }
 }
 
-fn cache_memory() -> [u8; 30720]
-    ensures { 30720 ≡ length result }
-{
-    [0; 30720]
+fn replay(
+    rt: &impl Print,
+    alloc: Global,
+    text: &[u8],
+    image: &mut [u8],
+    cache: &[u8],
+) -> io::Result<()> {
+    let mut s = unmounted(alloc, cache);
+    for line in text.split(|x| *x == b'\n') {
+        step(rt, &mut s, image, cache, line)?;
+    }
+    Ok(())
 }
 
-fn main() {
-    let mut text = io::large_buffer();
-    let n = io::read_full(STDIN_FILENO, &mut text);
-    let mut image = io::large_buffer();
-    let cache = cache_memory();
-    replay(&text[..n], &mut image, &cache);
+fn main(rt: HostRuntime) -> io::Result<()> {
+    let alloc = rt.alloc();
+    let mut text = Vec::new(alloc);
+    rt.reader().take(65536).read_to_end(&mut text)?;
+    let mut image = [0u8; 65536];
+    let cache = [0u8; 30720];
+    replay(&rt, alloc, &text, &mut image, &cache)
 }

@@ -1,12 +1,11 @@
--- Document 01's marked case 10, at the level of blocks: committing the list 32, 35, 34, 36 on case 1's card takes 10 writes; 4 leave the old,
+-- The marked case 10, at the level of blocks: committing the list 32, 35, 34, 36 on case 1's card takes 10 writes; 4 leave the old,
 -- 5 leave the new after recovery (proved in proofs/Cases.antt). Assumes nothing.
 use Rattle.std.specs.Prelude.{◌≡◌, refl, List, ℕ, zero, suc, ◌≤◌, ◌<◌}
 use Rattle.std.proofs.Common.{arith}
 use Rattle.base.specs.Bytes.{Bytes}
 use Rattle.superblock.specs.declared.Super.{Super}
 use Rattle.superblock.specs.Geometry.{Laid}
-use Rattle.card_log.specs.Journal.{Tx, GoodLog, Outside, logged, commit_due, committed, after_crash}
-use Rattle.card_log.specs.Headers.{commit_due_some}
+use Rattle.card_log.specs.Journal.{Tx, GoodLog, Outside, commit_due, committed, after_crash}
 
 -- case 1's card: size 64, ninodes 16, nlog 30
 abbrev pub card1 : Super

@@ -1,26 +1,23 @@
 -- What the proof of the pulled card stands on (statement: PulledCard.antt; proof: proofs/Crash.antt). `Leads s d e` says: the header on d is good,
 -- and installing what it says makes e of d outside the log. Every write of an installing keeps it, and so does every recovery, cut or not.
 -- Assumes nothing.
-use Rattle.std.specs.Prelude.{◌≡◌, ◌⊎◌, cond, leb}
-use Rattle.std.proofs.Math.Path.{refl, ap}
-use Rattle.std.proofs.Common.{sym, ◌∙◌, add-zero, add-suc, add-one}
-use Rattle.std.proofs.Math.Logic.{inl, inr, ⊎_elim}
+use Rattle.std.specs.Prelude.{◌≡◌, ◌⊎◌}
+use Rattle.std.proofs.Math.Path.{ap}
+use Rattle.std.proofs.Common.{sym, ◌∙◌}
+use Rattle.std.proofs.Math.Logic.{inl, inr}
 use mathlib.Core.List.{List, [], ◌∷◌}
-use Prim.Native.Nat.{ℕ, zero, suc, ◌+◌, ◌-◌, ◌*◌, ◌%◌, ◌≤◌, ◌<◌, min}
+use Prim.Native.Nat.{ℕ, ◌+◌, ◌*◌, ◌≤◌, ◌<◌, min}
 use native.Mathlib.Omega.{arith}
-use Rattle.std.proofs.Math.Decide.{ℕ_discrete, dec_lt}
-use borrow.Author.Tests.{lt-ltb, le-ltb, le-leb, lt-leb, eq-eqb, ne_eqb}
-use Rattle.base.specs.Bytes.{Bytes, block, put_block}
-use Rattle.base.specs.Decide.{le_or_lt, lt_or_le}
+use Rattle.std.proofs.Math.Decide.{ℕ_discrete}
+use Rattle.base.specs.Bytes.{Bytes}
+use Rattle.base.specs.Decide.{le_or_lt}
 use Rattle.base.specs.Run.{run, run_none}
 use Rattle.superblock.specs.declared.Super.{Super}
 use Rattle.superblock.specs.Geometry.{Laid}
-use Rattle.card_log.specs.Words.{put_words, words_in, words-first, words_out, block_in, block_off}
-use Rattle.card_log.specs.Journal.{Tx, held, header, log_block, words, home_write, emptied, install_write, commit_write, commit_due, recover_due}
-use Rattle.card_log.specs.Journal.{commit, committed, logged, recover, recovered, recoveries, replaced, GoodLog, Outside, Settled, after_crash, Ready}
-use Rattle.card_log.specs.PulledCard.{Saved, PulledCard}
-use Rattle.card_log.specs.Installing.{Same, homes_forget, homes_below, homes_same, homes_again, install_home, install_part, install_all, install_same, replaced_in, replaced_off}
-use Rattle.card_log.specs.Headers.{commit_due_none, commit_due_some, recover_due_none, recover_due_some, recover_due_most, words_suc, empty_count, emptied_off, log_count, log_same, good_same, good_none}
+use Rattle.card_log.specs.Journal.{Tx, home_write, emptied, install_write, commit_write, commit_due, recover_due}
+use Rattle.card_log.specs.Journal.{commit, committed, logged, recover, recovered, recoveries, replaced, GoodLog, Outside, Settled}
+use Rattle.card_log.specs.Installing.{Same, homes_below, homes_same, homes_again, install_part, install_all}
+use Rattle.card_log.specs.Headers.{recover_due_none, recover_due_some, recover_due_most, empty_count, emptied_off, log_count, log_same, good_same, good_none}
 
 -- d has a good header, and installing what it says makes e of it, outside the log area
 pub record Leads (s : Super) (d e : Bytes) : Type 0 where
@@ -94,17 +91,6 @@ module _ (s : Super) (laid : Laid s) where
             empty = empty_count (replaced t d);
             holds = λ x o. emptied_off s (replaced t d) x (omega (arith, laid.inodestart, l.good.room)) o ∙ l.to x o;
           })
-
--- and where they lie
-pub source_below : (n k i : ℕ) → (k ≡ n → ⊥) → k ≤ 2 * n → (k < n → i ≡ k) × (n < k → i ≡ k - (n + 1)) → i < n
-source_below n k i u l q = elim (dec_lt k n) [ yes w ↦ omega (arith, q.0 w) | no w ↦ omega (arith, q.1 (omega arith)) ]
-
-pub target_fits : (n : ℕ) (h b : ℕ → ℕ) (c m k a : ℕ) → Ready n h b c m → (k ≡ n → ⊥) → k ≤ 2 * n
-    → (k < n → a ≡ log_block k) × (n < k → a ≡ h (k - (n + 1))) → a * 1024 + 1024 ≤ m
-target_fits n h b c m k a r u l p = elim (dec_lt k n) [
-  | yes w ↦ omega (arith, p.0 w, r.log)
-  | no w ↦ omega (arith, p.1 (omega arith), r.home (k - (n + 1)) (omega arith))
-]
 
 -- a recovery with enough writes finishes
 pub recover_enough : (d : Bytes) (k : ℕ) → recover_due (logged d).count ≤ k → recover k d ≡ recovered d

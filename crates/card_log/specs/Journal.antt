@@ -1,6 +1,6 @@
 -- The write-ahead log: a commit and a recovery as numbered block writes, and their runs of which a given number reaches the card.
--- From document 01: the header is block 2 (a length, then the homes), logged block i is block 3 + i; a commit is n log writes, the header,
--- n home writes, the header emptied; a recovery is the home writes and the header emptied. Assumes nothing.
+-- The header is block 2 (a length, then the homes), logged block i is block 3 + i; a commit is n log writes, the header, n home writes, the
+-- header emptied; a recovery is the home writes and the header emptied. Assumes nothing.
 use Rattle.std.specs.Prelude.{◌≡◌, ◌⊎◌, cond, List, [], ◌∷◌, ℕ, zero, suc, ◌+◌, ◌-◌, ◌*◌, ◌≤◌, ◌<◌, min, ltb, eqb}
 use Rattle.base.specs.Bytes.{Bytes, put, block, put_block}
 use Rattle.base.specs.Number.{get, digit}
@@ -89,7 +89,7 @@ pub record HomesIn (homes : ℕ → ℕ) (n low high : ℕ) : Type 0 where
   pub below : (i : ℕ) → i < n → homes i < high
   pub distinct : (i j : ℕ) → i < n → j < n → homes i ≡ homes j → i ≡ j
 
--- document 01's good header: length at most min(29, nlog - 1), homes distinct, at least inodestart and below size
+-- a good header: length at most min(29, nlog - 1), homes distinct, at least inodestart and below size
 pub record GoodLog (s : Super) (t : Tx) : Type 0 where
   pub few : t.count ≤ 29
   pub room : t.count + 1 ≤ s.nlog

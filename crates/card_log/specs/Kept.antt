@@ -1,15 +1,14 @@
 -- What a recovery leaves alone, cut or not: the blocks before the log, so a card's superblock (a commit: proofs/Kept.antt). Assumes nothing.
-use Rattle.std.specs.Prelude.{◌≡◌, ◌⊎◌}
+use Rattle.std.specs.Prelude.{◌≡◌}
 use Rattle.std.proofs.Math.Path.{refl, ap}
-use Rattle.std.proofs.Common.{sym, ◌∙◌, inl, inr, arith}
-use Prim.Native.Nat.{ℕ, zero, suc, ◌+◌, ◌-◌, ◌≤◌, ◌<◌}
-use Rattle.std.proofs.Math.Decide.{ℕ_discrete, dec_lt}
-use Rattle.base.specs.Bytes.{Bytes, put_out, block, put_block}
+use Rattle.std.proofs.Common.{◌∙◌, arith}
+use Prim.Native.Nat.{ℕ, zero, suc, ◌≤◌, ◌<◌}
+use Rattle.std.proofs.Math.Decide.{dec_lt}
+use Rattle.base.specs.Bytes.{Bytes, put_out}
 use Rattle.base.specs.Number.{digit}
-use Rattle.base.specs.Decide.{lt_or_le}
 use Rattle.base.specs.Run.{run}
-use Rattle.card_log.specs.Words.{words_out, block_off}
-use Rattle.card_log.specs.Journal.{Tx, held, header, log_block, words, home_write, emptied, install_write, commit_write, commit, recover, logged}
+use Rattle.card_log.specs.Words.{block_off}
+use Rattle.card_log.specs.Journal.{Tx, header, home_write, emptied, install_write, recover, logged}
 use Rattle.card_log.specs.Installing.{install_home, install_last}
 
 -- a run of steps that each leave x alone

@@ -33,7 +33,7 @@ pub record Survives (s : Super) (t : Tx) (d : Bytes) (k : ℕ) (ks : List ℕ) :
   -- and what that is
   pub saved : Saved s t d
 
--- the theorem, for every card that is laid out as document 01 says and has an empty log, all good blocks, and every way to be pulled
+-- the theorem, for every card that is laid out as the format says and has an empty log, all good blocks, and every way to be pulled
 abbrev pub PulledCard : Type 0
 PulledCard =
     (s : Super) → Laid s → s.size ≤ 8191 → (t : Tx) → GoodLog s t → (d : Bytes) → (logged d).count ≡ 0

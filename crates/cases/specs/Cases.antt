@@ -1,38 +1,20 @@
 -- The marked cases, each computed from the very definitions that the contracts cite. A further case is a further row. Assumes nothing.
-use Rattle.std.specs.Prelude.{◌≡◌, refl, true, List, [], ◌∷◌, ℕ, ◌*◌, ◌+◌, ◌≤◌, min}
-use Rattle.base.specs.Bytes.{put}
+use Rattle.std.specs.Prelude.{List, [], ◌∷◌, ℕ, ◌*◌, ◌+◌, ◌≤◌, min}
 use Rattle.base.specs.First.{tabulate}
 use Rattle.superblock.specs.declared.Super.{Super}
 use Rattle.superblock.specs.Geometry.{GoodNumbers, data_start, inode_block, inode_byte, bit_addr}
-use Rattle.format.specs.Formatted.{numbers_of, fresh, ones}
+use Rattle.format.specs.Formatted.{numbers_of, fresh}
 use Rattle.format.specs.Laws.{numbers_good}
 use Rattle.std.proofs.Common.{arith}
 use Rattle.std.proofs.Math.Decide.{dec_lt, dec_le}
 use Rattle.base.specs.Bytes.{Bytes, bytes}
-use Rattle.base.specs.Number.{le, digit}
-use Rattle.base.specs.Run.{run}
-use Rattle.base.specs.First.{first, all}
-use Rattle.base.specs.Bit.{bit_at}
-use Rattle.bio.specs.Among.{among}
-use Rattle.card_log.specs.Words.{put_words}
-use Rattle.card_log.specs.Journal.{Tx, held, words, home_write, emptied, install_write, commit_write, commit_due, recover_due, commit, logged, recover, recovered, recoveries, after_crash}
+use Rattle.card_log.specs.Journal.{Tx, held, commit_due, after_crash}
 use Rattle.recording.specs.Record.{Room, news_of}
 use Rattle.transactions.specs.Calls.{IsBusy}
-use Rattle.superblock.specs.Entry.{padded, entry_bytes}
-use Rattle.superblock.specs.Node.{encoded, addr_bytes, node_in, no_node}
-use Rattle.superblock.specs.Disk.{disk, ino_of, bit_of, mem_of}
-use Rattle.base.specs.Update.{upd}
-use Rattle.format.specs.Formatted.{words as super_bytes, root_block}
-use Rattle.rules.specs.Fit.{entry, slot}
-use Rattle.rules.specs.Tree.{num_of, name_of}
-use Rattle.inode.specs.FitOf.{fit_of, shape_of, taken_of, slot_fit}
-use Rattle.path.specs.Names.{same_name}
-use Rattle.path.specs.Parts.{other, ends, start_of, end_of, part_of}
-use Rattle.dir.specs.Lookup.{has_name, entry_of, lookup}
-use Rattle.walk.specs.Step.{step_of}
-use Rattle.walk.specs.Walks.{walk_in, walk_of, given}
-use Rattle.walk.specs.Cases.{numbers, root, file, letters, inodes, bitmap as two_files_bitmap, card}
-use Rattle.cases.specs.Table.{Case, case, right, row, at, told}
+use Rattle.superblock.specs.Disk.{disk}
+use Rattle.walk.specs.Walks.{walk_of, given}
+use Rattle.walk.specs.Cases.{numbers, letters, card}
+use Rattle.cases.specs.Table.{Case, case, told}
 
 -- where the areas are, and how many data blocks there are
 abbrev pub areas : Super → List ℕ
@@ -89,7 +71,7 @@ found k =
 abbrev pub walked : List ℕ → List ℕ
 walked path = given (walk_of numbers (disk numbers card) 1 (47 ∷ path))
 
--- the table: a row for each case, by its number in the paper
+-- the table: a row for each case, by its number
 unfoldable pub cases : List Case
 cases =
     case 1 (areas small) (32 ∷ 34 ∷ 35 ∷ 29 ∷ [])

@@ -1,3 +1,3 @@
--- Document 01's marked cases as one checked table.
+-- The marked cases as one checked table.
 pub mod Table
 pub mod Cases

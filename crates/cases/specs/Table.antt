@@ -1,9 +1,9 @@
--- A table of cases: what a definition gives, and what document 01 says. One computed test passes over the whole table, and one law turns it
+-- A table of cases: what a definition gives, and what is expected. One computed test passes over the whole table, and one law turns it
 -- into the equation of each row. Assumes nothing.
 use Rattle.std.specs.Prelude.{◌≡◌, refl, Bool, true, false, ◌&&◌, List, [], ◌∷◌, ℕ, zero, suc, eqb}
 use Rattle.std.proofs.Common.{arith, eqb-true}
 
--- a case by its number in the paper: the numbers that the definitions give, and those that the paper says
+-- a case by its number: the numbers that the definitions give, and those that are expected
 pub record Case : Type 0 where
   pub no : ℕ
   pub gives : List ℕ

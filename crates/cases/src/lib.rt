@@ -1,2 +1,2 @@
-// Document 01's marked cases, proved: the crate has no code, its specs hold the one checked table.
+// Cases with their numbers, proved: the crate has no code, its specs hold the one checked table.
 #![tactic(auto)]

@@ -1,19 +1,17 @@
--- What the checker's steps say of an image, the law for each of their returns, and that a verdict which fits an image is the only one:
+-- What the checker's steps say of an image, and that a verdict which fits an image is the only one:
 -- `Sound` exactly for the sound images. Assumes nothing.
-use Rattle.std.specs.Prelude.{◌≡◌, refl, List, ℕ, zero, suc, ◌<◌, ◌≤◌, length}
-use Rattle.std.proofs.Common.{sym, ap, subst, ◌∙◌, arith}
+use Rattle.std.specs.Prelude.{◌≡◌, refl, List, ℕ, zero, suc, ◌≤◌, length}
+use Rattle.std.proofs.Common.{sym, ap, ◌∙◌, arith}
 use Rattle.std.proofs.Math.Decide.{dec_lt}
 use borrow.Rule.Slice.PartMut.{put_mid}
 use Rattle.base.specs.Bytes.{Bytes, bytes, bytes_mid, put, put_over}
-use Rattle.base.specs.Number.{get}
 use Rattle.superblock.specs.declared.Super.{Super}
-use Rattle.superblock.specs.Geometry.{GoodNumbers, Good, super_of}
+use Rattle.superblock.specs.Geometry.{super_of}
 use Rattle.superblock.specs.Disk.{disk}
 use Rattle.rules.specs.declared.Rule.{Rule}
 use Rattle.rules.specs.declared.Rule.TheVariants.{S1, S2, S3, S4, S5, S6, S7}
 use Rattle.rules.specs.declared.Verdict.{Verdict}
 use Rattle.rules.specs.declared.Verdict.TheVariants.{Sound, Unsound, Refused}
-use Rattle.rules.specs.Tree.{tree}
 use Rattle.rules.specs.Rules as rules
 use Rattle.rules.specs.Sound as sound
 use Rattle.rules.specs.Verdicts.{Keeps, number, FirstBroken, Says}
@@ -31,78 +29,6 @@ pub record Lower (image : List ℕ) (s : Super) : Type 0 where
   pub s2 : rules.S2 (bytes image)
   pub s3 : rules.S3 s (disk s (bytes image))
   pub s4 : rules.S4 s (disk s (bytes image))
-
-module _ (l : List ℕ) where
-  -- the rules of a number below m
-  upto : (m : ℕ) → (1 < m → rules.S1 l) → (2 < m → rules.S2 (bytes l)) → (3 < m → Keeps l S3) → (4 < m → Keeps l S4)
-      → (5 < m → Keeps l S5) → (6 < m → Keeps l S6) → (7 < m → Keeps l S7) → (q : Rule) → number q < m → Keeps l q
-  upto m a b c d e f g S1 h = a h
-  upto m a b c d e f g S2 h = b h
-  upto m a b c d e f g S3 h = c h
-  upto m a b c d e f g S4 h = d h
-  upto m a b c d e f g S5 h = e h
-  upto m a b c d e f g S6 h = f h
-  upto m a b c d e f g S7 h = g h
-
-  pub breaks1 : (Good l → ⊥) → FirstBroken l S1
-  breaks1 n = record { before = upto 1 (λ h. absurd (omega arith)) (λ h. absurd (omega arith)) (λ h. absurd (omega arith)) (λ h. absurd (omega arith)) (λ h. absurd (omega arith)) (λ h. absurd (omega arith)) (λ h. absurd (omega arith)); broken = λ k. n k.good }
-
-  module _ (a : Good l) where
-    one : rules.S1 l
-    one = record { good = a }
-
-    pub breaks2 : (get (bytes l) 2048 4 ≡ 0 → ⊥) → FirstBroken l S2
-    breaks2 n = record { before = upto 2 (λ _. one) (λ h. absurd (omega arith)) (λ h. absurd (omega arith)) (λ h. absurd (omega arith)) (λ h. absurd (omega arith)) (λ h. absurd (omega arith)) (λ h. absurd (omega arith)); broken = λ k. n k.empty }
-
-    module _ (b : get (bytes l) 2048 4 ≡ 0) (s : Super) (z : s ≡ super_of (bytes l)) where
-      two : rules.S2 (bytes l)
-      two = record { empty = b }
-
-      pub numbers_of_good : GoodNumbers s
-      numbers_of_good = subst (λ (x : Super). GoodNumbers x) (sym z) a.numbers
-
-      pub breaks3 : (rules.S3 s (disk s (bytes l)) → ⊥) → FirstBroken l S3
-      breaks3 n = record { before = upto 3 (λ _. one) (λ _. two) (λ h. absurd (omega arith)) (λ h. absurd (omega arith)) (λ h. absurd (omega arith)) (λ h. absurd (omega arith)) (λ h. absurd (omega arith)); broken = λ k. n (subst (λ (x : Super). rules.S3 x (disk x (bytes l))) (sym z) k) }
-
-      module _ (c : rules.S3 s (disk s (bytes l))) where
-        three : Keeps l S3
-        three = subst (λ (x : Super). rules.S3 x (disk x (bytes l))) z c
-
-        pub breaks4 : (rules.S4 s (disk s (bytes l)) → ⊥) → FirstBroken l S4
-        breaks4 n = record { before = upto 4 (λ _. one) (λ _. two) (λ _. three) (λ h. absurd (omega arith)) (λ h. absurd (omega arith)) (λ h. absurd (omega arith)) (λ h. absurd (omega arith)); broken = λ k. n (subst (λ (x : Super). rules.S4 x (disk x (bytes l))) (sym z) k) }
-
-        pub lower : rules.S4 s (disk s (bytes l)) → Lower l s
-        lower d = record { same = z; s1 = one; s2 = two; s3 = c; s4 = d }
-
-  module _ (s : Super) (w : Lower l s) where
-    pub good_numbers : GoodNumbers s
-    good_numbers = subst (λ (x : Super). GoodNumbers x) (sym w.same) w.s1.good.numbers
-
-    third : Keeps l S3
-    third = subst (λ (x : Super). rules.S3 x (disk x (bytes l))) w.same w.s3
-
-    fourth : Keeps l S4
-    fourth = subst (λ (x : Super). rules.S4 x (disk x (bytes l))) w.same w.s4
-
-    pub breaks5 : (rules.S5 (tree (disk s (bytes l))) → ⊥) → FirstBroken l S5
-    breaks5 n = record { before = upto 5 (λ _. w.s1) (λ _. w.s2) (λ _. third) (λ _. fourth) (λ h. absurd (omega arith)) (λ h. absurd (omega arith)) (λ h. absurd (omega arith)); broken = λ k. n (subst (λ (x : Super). rules.S5 (tree (disk x (bytes l)))) (sym w.same) k) }
-
-    module _ (e : rules.S5 (tree (disk s (bytes l)))) where
-      fifth : Keeps l S5
-      fifth = subst (λ (x : Super). rules.S5 (tree (disk x (bytes l)))) w.same e
-
-      pub breaks6 : (rules.S6 s (tree (disk s (bytes l))) → ⊥) → FirstBroken l S6
-      breaks6 n = record { before = upto 6 (λ _. w.s1) (λ _. w.s2) (λ _. third) (λ _. fourth) (λ _. fifth) (λ h. absurd (omega arith)) (λ h. absurd (omega arith)); broken = λ k. n (subst (λ (x : Super). rules.S6 x (tree (disk x (bytes l)))) (sym w.same) k) }
-
-      module _ (f : rules.S6 s (tree (disk s (bytes l)))) where
-        sixth : Keeps l S6
-        sixth = subst (λ (x : Super). rules.S6 x (tree (disk x (bytes l)))) w.same f
-
-        pub breaks7 : (rules.S7 s (tree (disk s (bytes l))) → ⊥) → FirstBroken l S7
-        breaks7 n = record { before = upto 7 (λ _. w.s1) (λ _. w.s2) (λ _. third) (λ _. fourth) (λ _. fifth) (λ _. sixth) (λ h. absurd (omega arith)); broken = λ k. n (subst (λ (x : Super). rules.S7 x (tree (disk x (bytes l)))) (sym w.same) k) }
-
-        pub all-seven : rules.S7 s (tree (disk s (bytes l))) → sound.Sound l
-        all-seven g = record { s1 = w.s1; s2 = w.s2; s3 = third; s4 = fourth; s5 = fifth; s6 = sixth; s7 = subst (λ (x : Super). rules.S7 x (tree (disk x (bytes l)))) w.same g }
 
 -- ---- the call
 

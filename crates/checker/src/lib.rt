@@ -7,26 +7,23 @@ ghost use Rattle.rules.specs.Verdicts.{Says};
 ghost use Rattle.checker.specs.Judge.{Judged, Lower};
 
 use base::Refusal;
+use reads::Card;
 use rules::{Rule, Verdict};
-use superblock::Super;
 
 // S5 to S7, where S1 to S4 hold.
-pub fn judge_tree(image: &[u8], s: Super, work: &mut [u32]) -> Verdict
-    requires { Lower image.now s × (65536 ≤ length work.old) }
-    ensures { Judged image.now result }
+pub fn judge_tree(card: &Card<'_>, work: &mut [u32]) -> Verdict
+    requires { Lower card.now.image.now card.now.sb × (65536 ≤ length work.old) }
+    ensures { Judged card.now.image.now result }
 {
-    let five = names::s5(image, s);
-    if !five {
+    if !names::s5(card) {
         return Verdict::Unsound(Rule::S5);
     }
     blocks::clear(work, 65536);
-    links::count_all(image, s, work);
-    let six = parents::s6(image, s, work);
-    if !six {
+    links::count_all(card, work);
+    if !parents::s6(card, work) {
         return Verdict::Unsound(Rule::S6);
     }
-    let seven = links::s7(image, s, work);
-    if !seven {
+    if !links::s7(card, work) {
         return Verdict::Unsound(Rule::S7);
     }
     Verdict::Sound
@@ -37,24 +34,24 @@ pub fn judge(image: &[u8], work: &mut [u32]) -> Verdict
     requires { 65536 ≤ length work.old }
     ensures { Judged image.now result }
 {
-    let one = superblock::good(image);
-    if !one {
+    if !superblock::good(image) {
         return Verdict::Unsound(Rule::S1);
     }
-    let length = reads::num4(image, 2048);
-    if length != 0 {
+    // how many blocks the log holds
+    if base::get_u32(image, 2048) != 0 {
         return Verdict::Unsound(Rule::S2);
     }
-    let s = superblock::super_of(image);
-    let three = blocks::s3(image, s);
-    if !three {
+    let card = Card {
+        image,
+        sb: superblock::super_of(image),
+    };
+    if !blocks::s3(&card) {
         return Verdict::Unsound(Rule::S3);
     }
-    let four = blocks::s4(image, s, work);
-    if !four {
+    if !blocks::s4(&card, work) {
         return Verdict::Unsound(Rule::S4);
     }
-    judge_tree(image, s, work)
+    judge_tree(&card, work)
 }
 
 // The call: any image, of any length.

@@ -1,14 +1,14 @@
 -- An inode's content as it is copied: each byte from the block that its slot names, in parts that end where a block does. Assumes nothing.
-use Rattle.std.specs.Prelude.{◌≡◌, List, ℕ, ◌+◌, ◌-◌, ◌*◌, ◌/◌, ◌%◌, ◌≤◌, ◌<◌, min, length}
+use Rattle.std.specs.Prelude.{◌≡◌, ℕ, ◌+◌, ◌-◌, ◌*◌, ◌/◌, ◌%◌, ◌≤◌, ◌<◌, min, length}
 use Rattle.std.proofs.Common.{sym, ap, ◌∙◌, arith}
-use Rattle.base.specs.Bytes.{Bytes, bytes, put, put_same, put_more}
+use Rattle.base.specs.Bytes.{Bytes, put, put_same, put_more}
 use Rattle.superblock.specs.declared.Super.{Super}
 use Rattle.superblock.specs.declared.Inode.{Inode}
 use Rattle.superblock.specs.Node.{Node, node}
-use Rattle.bio.specs.Seen.{seen}
-use Rattle.bio.specs.Part.{IsBlock}
+use Rattle.bio.specs.declared.Seen.{Seen}
+use Rattle.bio.specs.Memory.{memory}
 use Rattle.rules.specs.Fit.{Fit, slot, slot_of, blocks as blocks_of}
-use Rattle.inode.specs.Lent.{Lent, disk_seen}
+use Rattle.inode.specs.Lent.{Lent, disk_by}
 use Rattle.inode.specs.Content.{block-taken}
 
 -- byte o of the content of the inode r in the memory d
@@ -16,10 +16,10 @@ abbrev pub content_at : Bytes → Node → ℕ → ℕ
 content_at d r o = d (slot d r (slot_of (o / 1024)) * 1024 + o % 1024)
 
 -- what copying asks: 30 buffers, a size within the limit, and each of the inode's blocks on the card
-pub record Readable (blocks counts cache image : List ℕ) (f : Inode) : Type 0 where
-  pub buffers : length cache ≡ 30720
+pub record Readable (card : Seen) (f : Inode) : Type 0 where
+  pub buffers : length card.cache.now ≡ 30720
   pub small : f.size ≤ 274432
-  pub inside : (k : ℕ) → k < blocks_of f.size → slot (seen blocks counts (bytes cache) (bytes image)) (node f) (slot_of k) * 1024 + 1024 ≤ length image
+  pub inside : (k : ℕ) → k < blocks_of f.size → slot (memory card) (node f) (slot_of k) * 1024 + 1024 ≤ length card.image.now
 
 -- m bytes of r's content from byte at on were put at place p of the buffer: n of them, or fewer where the block ends sooner
 pub record Part (d : Bytes) (r : Node) (at p n : ℕ) (was is : Bytes) (m : ℕ) : Type 0 where
@@ -27,11 +27,11 @@ pub record Part (d : Bytes) (r : Node) (at p n : ℕ) (was is : Bytes) (m : ℕ)
   pub filled : is ≡ put was p m (λ k. content_at d r (at + k))
 
 -- a fit inode is readable
-pub fit_readable : (s : Super) (blocks counts cache image : List ℕ) (f : Inode) → Lent s image cache → Fit s (disk_seen s blocks counts cache image) (node f) → Readable blocks counts cache image f
-fit_readable s blocks counts cache image f l t = record {
+pub fit_readable : (s : Super) (card : Seen) (f : Inode) → Lent s card.image.now card.cache.now → Fit s (disk_by s card) (node f) → Readable card f
+fit_readable s card f l t = record {
   buffers = l.buffers;
   small = t.shape.small;
-  inside = λ k h. omega (arith, (block-taken s (seen blocks counts (bytes cache) (bytes image)) (node f) t k h).high, l.card);
+  inside = λ k h. omega (arith, (block-taken s (memory card) (node f) t k h).high, l.card);
 }
 
 module _ (d : Bytes) (r : Node) where
@@ -56,8 +56,3 @@ module _ (d : Bytes) (r : Node) where
   more offset p n m was mid is h q =
       q.filled ∙ ap (λ (x : Bytes). put x p m (λ k. content_at d r (offset + p + k))) h
       ∙ put_more was 0 p p m (λ k. content_at d r (offset + k)) (λ k. content_at d r (offset + p + k)) (omega arith) (λ j l. ap (content_at d r) (omega arith))
-
--- the block that holds byte at is all there
-pub block-full : (blocks counts cache image : List ℕ) (f : Inode) (at b : ℕ) (t : List ℕ) → Readable blocks counts cache image f → at < f.size
-    → b ≡ slot (seen blocks counts (bytes cache) (bytes image)) (node f) (slot_of (at / 1024)) → IsBlock t blocks counts cache image b → length t ≡ 1024
-block-full blocks counts cache image f at b t r h e i = i.full r.buffers (omega (arith, r.inside (at / 1024) (omega arith)))

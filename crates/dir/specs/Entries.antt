@@ -1,5 +1,5 @@
 -- A directory's entries as the code reads them in a memory, and that this is the lookup on the tree for a fit directory. Assumes nothing.
-use Rattle.std.specs.Prelude.{◌≡◌, Bool, ℕ, ◌+◌, ◌-◌, ◌*◌, ◌/◌, ◌%◌, ◌≤◌, ◌<◌, min, eqb}
+use Rattle.std.specs.Prelude.{◌≡◌, Bool, Option, Some, None, ℕ, ◌+◌, ◌-◌, ◌*◌, ◌/◌, ◌%◌, ◌≤◌, ◌<◌, min, eqb}
 use Rattle.std.proofs.Math.Path.{refl, sym, ap}
 use Rattle.std.proofs.Common.{◌∙◌}
 use Rattle.std.proofs.Math.Bool.{true, false, cond}
@@ -16,10 +16,10 @@ use Rattle.superblock.specs.Disk.{disk, ino_of}
 use Rattle.rules.specs.Fit.{Fit, slot, slot_of, byte_of}
 use Rattle.rules.specs.Tree.{tree, num_of, name_of, is_entry}
 use Rattle.inode.specs.Content.{content}
+use Rattle.path.specs.Search.{found, found-some, found-none}
 use Rattle.path.specs.Names.{same_name, same_cong}
-use Rattle.dir.specs.Lookup.{has_name, entry_of, lookup}
+use Rattle.dir.specs.Lookup.{has_name, entry_of, lookup, found_at}
 use Rattle.dir.specs.declared.Found.{Found}
-use Rattle.dir.specs.declared.Found.TheVariants.{At, Missing}
 
 -- the entry at address a is live and has the name
 unfoldable pub entry_is : Bytes → Bytes → ℕ → Bool
@@ -33,8 +33,8 @@ unfoldable pub look_index : Bytes → Inode → Bytes → ℕ
 look_index d f name = first (λ k. entry_is d name (entry_addr d f k)) (f.size / 16)
 
 -- what the code finds
-unfoldable pub look_in : Bytes → Inode → Bytes → Found
-look_in d f name = cond (ltb (look_index d f name) (f.size / 16)) (At (get d (entry_addr d f (look_index d f name)) 2) (look_index d f name)) Missing
+unfoldable pub look_in : Bytes → Inode → Bytes → Option Found
+look_in d f name = cond (ltb (look_index d f name) (f.size / 16)) (Some (found_at (get d (entry_addr d f (look_index d f name)) 2) (look_index d f name))) None
 
 -- ---- the code's places
 
@@ -62,11 +62,11 @@ entry_moved d e o n same name a l =
     )
 
 module _ (d : Bytes) (f : Inode) (name : Bytes) where
-  look_at : (k : ℕ) → k < f.size / 16 → ((j : ℕ) → j < k → entry_is d name (entry_addr d f j) ≡ false) → entry_is d name (entry_addr d f k) ≡ true → look_in d f name ≡ At (get d (entry_addr d f k) 2) k
+  look_at : (k : ℕ) → k < f.size / 16 → ((j : ℕ) → j < k → entry_is d name (entry_addr d f j) ≡ false) → entry_is d name (entry_addr d f k) ≡ true → look_in d f name ≡ Some (found_at (get d (entry_addr d f k) 2) k)
   unfolding look_in look_index
   look_at k l h t = rw (first-at (λ k. entry_is d name (entry_addr d f k)) (f.size / 16) k l h t, lt-ltb _ _ l)
 
-  pub look_none : ((j : ℕ) → j < f.size / 16 → entry_is d name (entry_addr d f j) ≡ false) → look_in d f name ≡ Missing
+  pub look_none : ((j : ℕ) → j < f.size / 16 → entry_is d name (entry_addr d f j) ≡ false) → look_in d f name ≡ None
   unfolding look_in look_index
   look_none h = rw (first-none (λ k. entry_is d name (entry_addr d f k)) (f.size / 16) h, le-ltb (f.size / 16) (f.size / 16) (omega arith))
 
@@ -76,37 +76,40 @@ module _ (d e : Bytes) (f : Inode) (name : Bytes) (b at count n : ℕ) (same : (
   here : (j : ℕ) → j < 64 → entry_is d name (16 * j) ≡ entry_is e name (entry_addr e f (b * 64 + j))
   here j h = entry_moved d e (at * 1024) 1024 same name (16 * j) (omega arith) ∙ ap (entry_is e name) (ap (λ (x : ℕ). x * 1024 + 16 * j) is ∙ sym (entry_at e f b j h))
 
-  pub block_passed : (k : ℕ) → k ≡ first (λ j. entry_is d name (16 * j)) count → count ≤ k
+  pub block_passed : found (λ j. entry_is d name (16 * j)) count ≡ None
       → ((j : ℕ) → j < b * 64 → j < f.size / 16 → entry_is e name (entry_addr e f j) ≡ false)
       → (j : ℕ) → j < (b + 1) * 64 → j < f.size / 16 → entry_is e name (entry_addr e f j) ≡ false
-  block_passed k q m inv j l h = go (ltb j (b * 64)) refl
+  block_passed q inv j l h = go (ltb j (b * 64)) refl
     where
       go : (t : Bool) → ltb j (b * 64) ≡ t → entry_is e name (entry_addr e f j) ≡ false
       go true x = inv j (ltb-true j (b * 64) x) h
       go false x =
           let y : b * 64 ≤ j = ltb-false j (b * 64) x in
           let z : b * 64 + (j - b * 64) ≡ j = omega arith in
-          rw z at (sym (here (j - b * 64) (omega arith)) ∙ first_before (λ j. entry_is d name (16 * j)) count (j - b * 64) (omega arith))
+          rw z at (sym (here (j - b * 64) (omega arith)) ∙ found-none (λ j. entry_is d name (16 * j)) count q (j - b * 64) (omega arith))
 
-  pub block-found : (k x y : ℕ) → k ≡ first (λ j. entry_is d name (16 * j)) count → k < count
+  pub block-found : (k x y : ℕ) → found (λ j. entry_is d name (16 * j)) count ≡ Some k
       → ((j : ℕ) → j < b * 64 → j < f.size / 16 → entry_is e name (entry_addr e f j) ≡ false)
-      → x ≡ get d (16 * k) 2 → y ≡ b * 64 + k → At x y ≡ look_in e f name
-  block-found k x y q m inv ex ey =
+      → x ≡ get d (16 * k) 2 → y ≡ b * 64 + k → Some (found_at x y) ≡ look_in e f name
+  block-found k x y hit inv ex ey =
+      let q = (found-some (λ j. entry_is d name (16 * j)) count k hit).0 in
+      let m : k < count = (found-some (λ j. entry_is d name (16 * j)) count k hit).1 in
       let c : k < 64 = omega arith in
       let n : b * 64 + k < f.size / 16 = omega arith in
       let r : get e (entry_addr e f (b * 64 + k)) 2 ≡ get d (16 * k) 2 = ap (λ (a : ℕ). get e a 2) (entry_at e f b k c ∙ ap (λ (x : ℕ). x * 1024 + 16 * k) (sym is)) ∙ sym (get_moved d e (at * 1024) 1024 same (16 * k) 2 (omega arith)) in
       let g : first (λ j. entry_is d name (16 * j)) count < count = omega arith in
       let t : entry_is d name (16 * k) ≡ true = rw q (first_holds (λ j. entry_is d name (16 * j)) count g) in
-      rw (ex, ey) (sym (look_at e f name (b * 64 + k) n before (sym (here k c) ∙ t) ∙ ap (λ (x : ℕ). At x (b * 64 + k)) r))
+      rw (ex, ey) (sym (look_at e f name (b * 64 + k) n before (sym (here k c) ∙ t) ∙ ap (λ (x : ℕ). Some (found_at x (b * 64 + k))) r))
     where
       before : (j : ℕ) → j < b * 64 + k → entry_is e name (entry_addr e f j) ≡ false
       before j l = go (ltb j (b * 64)) refl
         where
           go : (t : Bool) → ltb j (b * 64) ≡ t → entry_is e name (entry_addr e f j) ≡ false
-          go true x = inv j (ltb-true j (b * 64) x) (omega arith)
+          go true x = inv j (ltb-true j (b * 64) x) (omega (arith, (found-some (λ j. entry_is d name (16 * j)) count k hit).1))
           go false x =
               let y : b * 64 ≤ j = ltb-false j (b * 64) x in
               let z : b * 64 + (j - b * 64) ≡ j = omega arith in
+              let q = found-some (λ j. entry_is d name (16 * j)) count k hit in
               rw z at (sym (here (j - b * 64) (omega arith)) ∙ first_before (λ j. entry_is d name (16 * j)) count (j - b * 64) (omega arith))
 
 -- ---- on the tree
@@ -155,6 +158,6 @@ module _ (s : Super) (d : Bytes) (f : Inode) (i : ℕ) (is : node f ≡ ino_of s
       rw (size_is, e) (go (ltb (look_index d f name) (f.size / 16)) refl)
     where
       go : (t : Bool) → ltb (look_index d f name) (f.size / 16) ≡ t
-          → cond t (At (get d (entry_addr d f (look_index d f name)) 2) (look_index d f name)) Missing ≡ cond t (At ((tree (disk s d)).num i (look_index d f name)) (look_index d f name)) Missing
-      go true q = ap (λ (x : ℕ). At x (look_index d f name)) (sym (num_is (look_index d f name) (ltb-true _ _ q)))
+          → cond t (Some (found_at (get d (entry_addr d f (look_index d f name)) 2) (look_index d f name))) None ≡ cond t (Some (found_at ((tree (disk s d)).num i (look_index d f name)) (look_index d f name))) None
+      go true q = ap (λ (x : ℕ). Some (found_at x (look_index d f name))) (sym (num_is (look_index d f name) (ltb-true _ _ q)))
       go false q = refl

@@ -1,4 +1,4 @@
--- A freshly formatted card, byte for byte, as document 01 says: what mkfs writes when it is given no files. Assumes nothing.
+-- A freshly formatted card, byte for byte: what mkfs writes when it is given no files. Assumes nothing.
 use Rattle.std.specs.Prelude.{List, [], ◌∷◌, ℕ, ◌+◌, ◌-◌, ◌*◌, ◌/◌, ◌%◌, ◌^◌, min, get_or}
 use Rattle.base.specs.Bytes.{Bytes, put, put_block}
 use Rattle.base.specs.Number.{digit}

@@ -1,12 +1,13 @@
 -- How the code's stores make up a fresh card. Assumes nothing.
-use Rattle.std.specs.Prelude.{◌≡◌, refl, List, [], ◌∷◌, ℕ, ◌+◌, ◌-◌, ◌*◌, ◌/◌, ◌%◌, ◌^◌, ◌≤◌, ◌<◌, min, get_or, length, set}
-use Rattle.std.proofs.Common.{sym, ap, ◌∙◌, arith}
+use Rattle.std.specs.Prelude.{◌≡◌, refl, List, [], ◌∷◌, ℕ, ◌+◌, ◌-◌, ◌*◌, ◌/◌, ◌%◌, ◌^◌, ◌≤◌, ◌<◌, min, get_or, length, set, replicate}
+use Rattle.std.proofs.Common.{sym, ap, ◌∙◌, arith, take, drop, length-drop, length-take-le}
+use Rattle.std.proofs.lemmas.List.{length-replicate, get_or-replicate}
+use borrow.Rule.Slice.PartMut.{put_mid}
 use Rattle.std.proofs.Math.Path.{fun_ext}
 use Rattle.std.proofs.Math.Decide.{dec_lt}
 use Rattle.std.proofs.Math.ListN.{get_or-eq_default}
-use Rattle.std.proofs.Math.Pow.{pow-lt}
 use Rattle.base.specs.First.{tabulate, get_d_tabulate, length-tabulate}
-use Rattle.base.specs.Bytes.{Bytes, bytes, put, put_out, put-at, put-none, put_more, put_same, is_put, store_more}
+use Rattle.base.specs.Bytes.{Bytes, bytes, put, put_out, put-at, put-none, put_more, put_same, is_put, store_more, bytes_mid}
 use Rattle.base.specs.Number.{digit}
 use Rattle.base.specs.Update.{upd, upd_set}
 use Rattle.superblock.specs.declared.Super.{Super}
@@ -17,11 +18,21 @@ use Rattle.superblock.specs.Entry.{entry_bytes}
 use Rattle.format.specs.Formatted.{numbers_of, dot, dotdot, words, super_words, ones, root_node, root_block, zeros, fresh}
 
 -- an image that was zeroed from end to end
-pub all_zero : (l : List ℕ) → put (bytes l) 0 (length l) (λ k. 0) ≡ zeros
-all_zero l = sym (is_put zeros (bytes l) 0 (length l) (λ k. 0) (λ k h. refl) (λ x o. sym (get_or-eq_default l 0 (past x o))))
-  where
-    past : (x : ℕ) → (0 ≤ x → x < 0 + length l → ⊥) → length l ≤ x
-    past x o = elim (dec_lt x (length l)) [ yes h ↦ absurd (o (omega arith) (omega arith)) | no h ↦ omega arith ]
+pub all_zero : (l : List ℕ) (n : ℕ) → l ≡ replicate n 0 → bytes l ≡ zeros
+all_zero l n e = fun_ext (λ x. rw e (elim (dec_lt x n) [
+  | yes h ↦ get_or-replicate {A = ℕ} n x 0 0 h
+  | no h ↦ get_or-eq_default {A = ℕ} (replicate n 0) 0 {n = x} (omega (arith, length-replicate {A = ℕ} n 0))
+]))
+
+-- a part that was lent and filled
+pub part_filled : (l p : List ℕ) (a e n v : ℕ) → p ≡ replicate (length (take (e - a) (drop a l))) v → e ≡ a + n → a + n ≤ length l
+    → bytes (put_mid a (e - a) l p) ≡ put (bytes l) a n (λ k. v)
+part_filled l p a e n v f g h =
+    let m : e - a ≡ n = omega arith in
+    let k : length (take (e - a) (drop a l)) ≡ n = rw m (length-take-le n (drop a l) (omega (arith, length-drop a l))) in
+    let q : p ≡ replicate n v = f ∙ ap (λ (x : ℕ). replicate {A = ℕ} x v) k in
+    rw m (bytes_mid l p a n (ap (λ (x : List ℕ). length x) q ∙ length-replicate {A = ℕ} n v) h
+    ∙ put_same (bytes l) a n (bytes p) (λ k. v) (λ j i. ap (λ (x : List ℕ). get_or x j 0) q ∙ get_or-replicate {A = ℕ} n j v 0 i))
 
 -- number i of a list of words
 pub word_byte : (l : List ℕ) (i k : ℕ) → k < 4 → words l (4 * i + k) ≡ digit (get_or l i 0) k
@@ -83,9 +94,6 @@ ones_whole d a m n h z = is_put (put d a (n / 8 + 1) (ones n)) d a m (ones n) wi
       | yes g ↦ put-at d a (n / 8 + 1) (ones n) k g
       | no g ↦ put_out d a (n / 8 + 1) (ones n) (a + k) (λ p q. omega arith) ∙ z k l ∙ sym (ones_none n k (omega arith))
     ]
-
-pub low_byte : (k : ℕ) → k < 8 → (1 * 2 ^ k) % 256 ≡ 2 ^ k
-low_byte k h = let l : 2 ^ k < 256 = pow-lt h in omega arith
 
 -- the parts in the order in which the code writes them
 pub fresh-written : (s : Super) → GoodNumbers s → (r : Node) → r ≡ root_node (data_start s)

@@ -12,20 +12,7 @@ ghost use Rattle.format.specs.Formatted.{numbers_of, words, super_words, ones, r
 ghost use Rattle.format.specs.Give.{FormatGives};
 
 use base::Refusal;
-use superblock::{Entry, Inode, Super};
-
-#[derive(Clone, Copy)]
-pub enum Answer {
-    Done,
-    Refused(Refusal),
-}
-
-// How much a is beyond b, 0 where it is not.
-fn beyond(a: u32, b: u32) -> u32
-    ensures { result ≡ a - b }
-{
-    if b <= a { a - b } else { 0 }
-}
+use superblock::{Entry, Inode, Kind, Super};
 
 // The superblock's numbers. The limits are known, so that no sum wraps.
 fn numbers(size: u32, ninodes: u32, nlog: u32) -> Super
@@ -36,12 +23,12 @@ fn numbers(size: u32, ninodes: u32, nlog: u32) -> Super
     let bmapstart = inodestart + ninodes / 16 + 1;
     let start = bmapstart + size / 8192 + 1;
     Super {
-        size: size,
-        nblocks: beyond(size, start),
-        ninodes: ninodes,
-        nlog: nlog,
-        inodestart: inodestart,
-        bmapstart: bmapstart,
+        size,
+        nblocks: size.saturating_sub(start),
+        ninodes,
+        nlog,
+        inodestart,
+        bmapstart,
     }
 }
 
@@ -49,19 +36,14 @@ fn numbers(size: u32, ninodes: u32, nlog: u32) -> Super
 fn good_request(size: u32, ninodes: u32, nlog: u32) -> bool
     ensures { Decides result (GoodNumbers (numbers_of size ninodes nlog)) }
 {
-    if 8191 < size {
-        return false;
-    }
-    if 65535 < ninodes {
-        return false;
-    }
-    if 30 < nlog {
-        return false;
-    }
-    superblock::good_numbers(numbers(size, ninodes, nlog))
+    size <= 8191
+        && ninodes <= 65535
+        && nlog <= 30
+        && superblock::good_numbers(numbers(size, ninodes, nlog))
 }
 
 // The superblock's eight numbers, from byte 1024 on.
+#[tactic(auto, using(crate::specs::Laws::super_written))]
 fn put_super(image: &mut [u8], s: Super)
     requires { 2048 ≤ length image.old }
     ensures { bytes image.new ≡ put (bytes image.old) 1024 32 (words (super_words s)) }
@@ -77,30 +59,19 @@ fn put_super(image: &mut [u8], s: Super)
 }
 
 // The root directory's inode, its one block at start.
+#[tactic(auto, using(crate::specs::Laws::root_addrs))]
 fn root_inode(start: u32) -> Inode
     ensures { node result ≡ root_node start }
 {
-    let mut addrs = [0u32; 13];
+    let mut addrs = [0; 13];
     addrs[0] = start;
     Inode {
-        kind: 1,
+        kind: Kind::Directory.code(),
         major: 0,
         minor: 0,
         nlink: 1,
         size: 1024,
-        addrs: addrs,
-    }
-}
-
-// The n bytes from a on become 255.
-fn fill_ones(dst: &mut [u8], a: usize, n: usize)
-    requires { a + n ≤ length dst.old }
-    ensures { bytes dst.new ≡ put (bytes dst.old) a n (λ k. 255) }
-{
-    let mut i = 0;
-    while i < n {
-        dst[a + i] = 255;
-        i += 1;
+        addrs,
     }
 }
 
@@ -117,8 +88,9 @@ fn put_ones(dst: &mut [u8], a: usize, n: usize)
     requires { a + (n / 8 + 1) ≤ length dst.old }
     ensures { bytes dst.new ≡ put (bytes dst.old) a (n / 8 + 1) (ones n) }
 {
-    fill_ones(dst, a, n / 8);
-    dst[a + n / 8] = low_ones((n % 8) as u8);
+    let last = a + n / 8;
+    dst[a..last].fill(255);
+    dst[last] = low_ones((n % 8) as u8);
 }
 
 // The root directory's block by value: "." and "..", then zeros.
@@ -140,12 +112,12 @@ fn root_block() -> [u8; 1024]
 }
 
 // The root directory's block, written to the card at start.
+#[tactic(auto, using(crate::specs::Laws::root_copied))]
 fn put_root(image: &mut [u8], start: usize)
     requires { (start + 1) * 1024 ≤ length image.old }
     ensures { bytes image.new ≡ put_block (bytes image.old) start root_block }
 {
-    let block = root_block();
-    base::copy_part(image, start * 1024, &block, 0, 1024);
+    base::copy_part(image, start * 1024, &root_block(), 0, 1024);
 }
 
 // Everything is zeroed, then each part is written.
@@ -154,27 +126,20 @@ fn write_fresh(image: &mut [u8], s: Super)
     ensures { bytes image.new ≡ fresh s }
 {
     let start = s.bmapstart + s.size / 8192 + 1;
-    let root = root_inode(start);
-    let first = base::place(start);
-    let inodes = base::place(s.inodestart);
-    let bitmap = base::place(s.bmapstart);
-    base::clear_part(image, 0, image.len());
+    image.fill(0);
     put_super(image, s);
-    superblock::put_inode(image, inodes * 1024 + 64, root);
-    put_ones(image, bitmap * 1024, first + 1);
-    put_root(image, first);
+    superblock::put_inode(image, s.inodestart as usize * 1024 + 64, root_inode(start));
+    put_ones(image, s.bmapstart as usize * 1024, start as usize + 1);
+    put_root(image, start as usize);
 }
 
 // The whole image is written, or nothing is.
-pub fn format(image: &mut [u8], size: u32, ninodes: u32, nlog: u32) -> Answer
+pub fn format(image: &mut [u8], size: u32, ninodes: u32, nlog: u32) -> Result<(), Refusal>
     ensures { FormatGives image.old size ninodes nlog (result, image.new) }
 {
-    if !good_request(size, ninodes, nlog) {
-        return Answer::Refused(Refusal::BadCall);
-    }
-    if image.len() != base::place(size) * 1024 {
-        return Answer::Refused(Refusal::BadCall);
+    if !good_request(size, ninodes, nlog) || image.len() != size as usize * 1024 {
+        return Err(Refusal::BadCall);
     }
     write_fresh(image, numbers(size, ninodes, nlog));
-    Answer::Done
+    Ok(())
 }

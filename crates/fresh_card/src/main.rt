@@ -2,56 +2,36 @@
 // first five bytes of the bitmap as they then stand in the image.
 #![tactic(auto)]
 
-ghost use Rattle.std.specs.Prelude.{◌≡◌, length};
+use std::io;
 
-use format::Answer;
-
-// Standard output's number.
-const STDOUT_FILENO: i32 = 1;
-
-// Memory for 64 blocks, as something else left it. The `ensures` gives only the length, which lending the array as a slice needs.
-fn used_memory() -> [u8; 65536]
-    ensures { 65536 ≡ length result }
-{
-    [255; 65536]
-}
-
-fn say(words: &[u8], n: u32) {
-    io::write_all(STDOUT_FILENO, words);
-    io::write_all(STDOUT_FILENO, b" ");
-    io::print_decimal(STDOUT_FILENO, n as u64);
-    io::write_all(STDOUT_FILENO, b"\n");
-}
-
-fn say_super(image: &[u8]) {
+fn say_super(rt: &impl Print, image: &[u8]) -> io::Result<()> {
     let s = superblock::super_of(image);
-    say(b"magic", base::get_u32(image, 1024));
-    say(b"size", s.size);
-    say(b"nblocks", s.nblocks);
-    say(b"ninodes", s.ninodes);
-    say(b"nlog", s.nlog);
-    say(b"logstart", base::get_u32(image, 1044));
-    say(b"inodestart", s.inodestart);
-    say(b"bmapstart", s.bmapstart);
+    println!(rt; "magic {}", base::get_u32(image, 1024))?;
+    println!(rt; "size {}", s.size)?;
+    println!(rt; "nblocks {}", s.nblocks)?;
+    println!(rt; "ninodes {}", s.ninodes)?;
+    println!(rt; "nlog {}", s.nlog)?;
+    println!(rt; "logstart {}", base::get_u32(image, 1044))?;
+    println!(rt; "inodestart {}", s.inodestart)?;
+    println!(rt; "bmapstart {}", s.bmapstart)
 }
 
-fn say_bitmap(image: &[u8]) {
-    let s = superblock::super_of(image);
-    let bitmap = base::place(s.bmapstart) * 1024;
-    say(b"bitmap byte 0", base::get_past(image, bitmap, 0) as u32);
-    say(b"bitmap byte 1", base::get_past(image, bitmap, 1) as u32);
-    say(b"bitmap byte 2", base::get_past(image, bitmap, 2) as u32);
-    say(b"bitmap byte 3", base::get_past(image, bitmap, 3) as u32);
-    say(b"bitmap byte 4", base::get_past(image, bitmap, 4) as u32);
+fn say_bitmap(rt: &impl Print, image: &[u8]) -> io::Result<()> {
+    let bitmap = superblock::super_of(image).bmapstart as usize * 1024;
+    for i in 0..5 {
+        println!(rt; "bitmap byte {i} {}", base::get_past(image, bitmap, i))?;
+    }
+    Ok(())
 }
 
-fn main() {
-    let mut image = used_memory();
+fn main(rt: HostRuntime) -> io::Result<()> {
+    // As something else left it.
+    let mut image = [255; 65536];
     match format::format(&mut image, 64, 16, 30) {
-        Answer::Done => {
-            say_super(&image);
-            say_bitmap(&image);
+        Ok(()) => {
+            say_super(&rt, &image)?;
+            say_bitmap(&rt, &image)
         }
-        Answer::Refused(why) => say(b"refused", base::number_of(why)),
+        Err(why) => println!(rt; "refused {}", why.number()),
     }
 }

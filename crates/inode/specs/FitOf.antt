@@ -1,5 +1,5 @@
 -- Fitness as an answer: `fit_of` is true exactly for a fit inode (`fit_of_decides`), so that a definition can go by it. Assumes nothing.
-use Rattle.std.specs.Prelude.{◌≡◌, refl, Bool, true, false, cond, ◌&&◌, ℕ, ◌-◌, ◌%◌, ◌≤◌, ◌<◌, ltb, leb, eqb}
+use Rattle.std.specs.Prelude.{◌≡◌, refl, Bool, true, false, cond, ◌&&◌, ℕ, ◌%◌, ◌≤◌, ◌<◌, ltb, leb, eqb}
 use Rattle.std.proofs.Common.{sym, ◌∙◌, arith, lt-ltb, le-ltb}
 use Rattle.std.proofs.Math.Decide.{dec_lt}
 use Rattle.base.specs.First.{all, all_yes, all_no}

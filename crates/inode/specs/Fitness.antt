@@ -1,9 +1,10 @@
--- Fitness as a test: a law for each place where the code answers, and `fit_of`, the answer itself, for definitions that go by it.
+-- Fitness as a test: what a pass over the addresses and the entries decides.
 -- Assumes nothing.
-use Rattle.std.specs.Prelude.{◌≡◌, Bool, true, false, ◌⊎◌, ℕ, ◌+◌, ◌-◌, ◌*◌, ◌/◌, ◌%◌, ◌≤◌, ◌<◌, eqb}
-use Rattle.std.proofs.Common.{sym, ap, ◌∙◌, inl, inr, arith, lt-ltb, eqb-true}
+use Rattle.std.specs.Prelude.{◌≡◌, refl, Bool, true, false, ◌⊎◌, ℕ, zero, suc, length, get_or, ◌+◌, ◌-◌, ◌*◌, ◌/◌, ◌%◌, ◌≤◌, ◌<◌}
+use Rattle.std.proofs.Common.{sym, ap, subst, ◌∙◌, inl, inr, arith, lt-ltb}
+use Rattle.std.specs.Bool.{MatchBool}
+use Rattle.std.specs.List.{AllWithin, HoldsAt, range_with_len}
 use Rattle.std.proofs.Math.Decide.{dec_lt}
-use Rattle.std.proofs.lemmas.Bool.{eqb-false}
 use Rattle.base.specs.Bytes.{Bytes}
 use Rattle.base.specs.Number.{get, get_moved}
 use Rattle.base.specs.Bit.{bit_at}
@@ -11,73 +12,28 @@ use Rattle.base.specs.Decide.{Decides, so, not_so, alike}
 use Rattle.superblock.specs.declared.Super.{Super}
 use Rattle.superblock.specs.Geometry.{GoodNumbers, bits, data_start, bit_addr}
 use Rattle.superblock.specs.Node.{Node}
-use Rattle.superblock.specs.Disk.{Disk, disk, mem_of, bit_of}
+use Rattle.superblock.specs.Disk.{disk, mem_of, bit_of}
 use Rattle.rules.specs.Fit.{Shape, Taken, Fit, blocks, slots, entry, slot}
 use Rattle.inode.specs.Slots.{TakenBy, SlotGood, slot_direct, slot-entry, entry-none, entry-some, entry_mem}
 
--- ---- kind and size
+-- ---- the library's test of all numbers below n
 
-module _ (k s : ℕ) where
-  pub shape_free : k < 1 → Decides false (Shape k s)
-  shape_free h = not_so λ o. omega (arith, o.used)
+range_at : (a n k d : ℕ) → k < n → get_or (range_with_len a n) k d ≡ a + k
+range_at a zero k d h = absurd (omega arith)
+range_at a (suc n) zero d h = omega arith
+range_at a (suc n) (suc k) d h = range_at (a + 1) n k d (omega arith) ∙ omega arith
 
-  pub shape_unknown : 3 < k → Decides false (Shape k s)
-  shape_unknown h = not_so λ o. omega (arith, o.known)
+range_length : (a n : ℕ) → length (range_with_len a n) ≡ n
+range_length a zero = refl
+range_length a (suc n) = ap suc (range_length (a + 1) n)
 
-  pub shape_large : 274432 < s → Decides false (Shape k s)
-  shape_large h = not_so λ o. omega (arith, o.small)
-
-  pub shape_short : k ≡ 1 → s < 32 → Decides false (Shape k s)
-  shape_short e h = not_so λ o. omega (arith, (o.dir e).0)
-
-  module _ (small : s ≤ 274432) where
-    pub shape_dir : k ≡ 1 → 32 ≤ s → Decides (eqb (s % 16) 0) (Shape k s)
-    shape_dir e h = record {
-      true_is = λ q. record { used = omega arith; known = omega arith; small = small; dir = λ _. (h, eqb-true (s % 16) 0 q); dev = λ z. absurd (omega arith) };
-      false_is = λ q o. eqb-false (s % 16) 0 q (o.dir e).1;
-    }
-
-    pub shape_dev : k ≡ 3 → Decides (eqb s 0) (Shape k s)
-    shape_dev e = record {
-      true_is = λ q. record { used = omega arith; known = omega arith; small = small; dir = λ z. absurd (omega arith); dev = λ _. eqb-true s 0 q };
-      false_is = λ q o. eqb-false s 0 q (o.dev e);
-    }
-
-    pub shape_file : 1 ≤ k → k ≤ 3 → (k ≡ 1 → ⊥) → (k ≡ 3 → ⊥) → Decides true (Shape k s)
-    shape_file a b n m = so (record { used = a; known = b; small = small; dir = λ z. absurd (n z); dev = λ z. absurd (m z) })
-
--- ---- one address
-
-module _ (s : Super) (m : Bytes) (b : ℕ) where
-  pub taken_low : (from : ℕ) → from ≡ data_start s → b < from → Decides false (TakenBy s m b)
-  taken_low from e h = not_so λ t. omega (arith, t.low)
-
-  pub taken_high : s.size ≤ b → Decides false (TakenBy s m b)
-  taken_high h = not_so λ t. omega (arith, t.high)
-
-  pub taken_bit : (x y : ℕ) → data_start s ≤ b → b < s.size → x ≡ m (b / 8) → y ≡ bit_at x (b % 8) → Decides (eqb y 1) (TakenBy s m b)
-  taken_bit x y l h e q =
-      let z : y ≡ bit_at (m (b / 8)) (b % 8) = q ∙ ap (λ (t : ℕ). bit_at t (b % 8)) e in
-      record {
-        true_is = λ t. record { low = l; high = h; is_set = sym z ∙ eqb-true y 1 t };
-        false_is = λ t o. eqb-false y 1 t (z ∙ o.is_set);
-      }
-
-  pub slot_used : (n p : ℕ) {r : Bool} → p < n → Decides r (TakenBy s m b) → Decides r (SlotGood s m n p b)
-  slot_used n p h d = alike (λ t. record { first = λ _. t; rest = λ l. absurd (omega arith) }) (λ o. o.first h) d
-
-  pub slot_unused : (n p : ℕ) → n ≤ p → Decides (eqb b 0) (SlotGood s m n p b)
-  slot_unused n p h = record {
-    true_is = λ e. record { first = λ l. absurd (omega arith); rest = λ _. eqb-true b 0 e };
-    false_is = λ e o. eqb-false b 0 e (o.rest h);
-  }
-
--- one index that fails
-pub each_no : (P : ℕ → Type 0) (n k : ℕ) → k < n → (P k → ⊥) → Decides false ((j : ℕ) → j < n → P j)
-each_no P n k h d = not_so λ f. d (f k h)
-
-pub unfit_shape : (s : Super) (v : Disk) (r : Node) → (Shape r.kind r.size → ⊥) → Decides false (Fit s v r)
-unfit_shape s v r h = not_so λ f. h f.shape
+pub all_decides : (P : ℕ → Type 0) (n : ℕ) (r : Bool)
+    → MatchBool r (AllWithin P (range_with_len 0 n) 0 (length (range_with_len 0 n))) ((k : ℕ) × (k < length (range_with_len 0 n)) × HoldsAt (λ x. P x → ⊥) (range_with_len 0 n) k)
+    → Decides r ((k : ℕ) → k < n → P k)
+all_decides P n true h = so (λ k l. let z : 0 + k ≡ k = omega arith in subst P (range_at 0 n k 0 l ∙ z) (h k 0 (omega arith) (omega (arith, range_length 0 n))))
+all_decides P n false h =
+    let l : h.0 < n = omega (arith, h.1, range_length 0 n) in
+    not_so λ f. h.2 0 (subst P (sym (range_at 0 n h.0 0 l)) (let z : 0 + h.0 ≡ h.0 = omega arith in rw z (f h.0 l)))
 
 -- ---- all addresses: m is the bitmap of d, as the block that holds it
 

@@ -5,6 +5,8 @@ use Rattle.superblock.specs.declared.Super.{Super}
 use Rattle.superblock.specs.Geometry.{Good, GoodNumbers, super_of}
 use Rattle.superblock.specs.Disk.{Disk, disk}
 use Rattle.bio.specs.Seen.{seen}
+use Rattle.bio.specs.Memory.{memory}
+use Rattle.bio.specs.declared.Seen.{Seen}
 
 -- the numbers are good and the image's, and the cache has its 30 buffers: what a call has tested before it reads anything
 pub record Lent (s : Super) (image cache : List ℕ) : Type 0 where
@@ -15,6 +17,9 @@ pub record Lent (s : Super) (image cache : List ℕ) : Type 0 where
 -- the Disk that is seen through a buffer table: its blocks and counts, the cache and the image
 abbrev pub disk_seen : Super → List ℕ → List ℕ → List ℕ → List ℕ → Disk
 disk_seen s blocks counts cache image = disk s (seen blocks counts (bytes cache) (bytes image))
+
+abbrev pub disk_by : Super → Seen → Disk
+disk_by s card = disk s (memory card)
 
 -- so it is where a good card's numbers are kept and the cache has its length
 pub lent : (s : Super) (image cache : List ℕ) → Good image → s ≡ super_of (bytes image) → length cache ≡ 30720 → Lent s image cache

@@ -1,10 +1,10 @@
 -- The end of an indirect block, past the entries in use: its bytes are 0 exactly where its entries are. Assumes nothing.
-use Rattle.std.specs.Prelude.{◌≡◌, refl, Bool, ℕ, ◌+◌, ◌*◌, ◌/◌, ◌%◌, ◌≤◌, ◌<◌, eqb}
-use Rattle.std.proofs.Common.{sym, ap, ◌∙◌, arith}
+use Rattle.std.specs.Prelude.{◌≡◌, Bool, ℕ, ◌+◌, ◌*◌, ◌/◌, ◌%◌, ◌≤◌, ◌<◌}
+use Rattle.std.proofs.Common.{ap, ◌∙◌, arith}
 use Rattle.std.proofs.Math.Decide.{dec_lt, ℕ_discrete}
 use Rattle.base.specs.Bytes.{Bytes}
 use Rattle.base.specs.Number.{get, get_four}
-use Rattle.base.specs.Decide.{Decides, alike, eq_decides}
+use Rattle.base.specs.Decide.{Decides, alike}
 use Rattle.superblock.specs.declared.Super.{Super}
 use Rattle.inode.specs.Slots.{TakenBy, SlotGood}
 
@@ -16,28 +16,6 @@ pub record BlankFrom (t : Bytes) (a : ℕ) : Type 0 where
 pub record Largest (t : Bytes) (a b m : ℕ) : Type 0 where
   pub low : m ≡ 0 → (i : ℕ) → a ≤ i → i < b → t i ≡ 0
   pub high : ((i : ℕ) → a ≤ i → i < b → t i ≡ 0) → m ≡ 0
-
-module _ (t : Bytes) (a : ℕ) where
-  pub largest_none : Largest t a a 0
-  largest_none = record { low = λ _ i l h. absurd (omega arith); high = λ _. refl }
-
-  pub largest_old : (b m : ℕ) → Largest t a b m → t b ≤ m → Largest t a (b + 1) m
-  largest_old b m g h = record { low = low; high = λ z. g.high (λ i l k. z i l (omega arith)) }
-    where
-      low : m ≡ 0 → (i : ℕ) → a ≤ i → i < b + 1 → t i ≡ 0
-      low e i l k = elim (ℕ_discrete i b) [
-        | yes u ↦ ap t u ∙ omega arith
-        | no u ↦ g.low e i l (omega arith)
-      ]
-
-  pub largest_new : (b m : ℕ) → Largest t a b m → a ≤ b → m < t b → Largest t a (b + 1) (t b)
-  largest_new b m g l h = record { low = λ e. absurd (omega arith); high = λ z. z b l (omega arith) }
-
-  pub largest_end : (b m : ℕ) → Largest t a b m → 1024 ≤ b → b ≤ 1024 → Decides (eqb m 0) (BlankFrom t a)
-  largest_end b m g h k = alike
-      (λ e. record { zero = λ i p q. g.low e i p (omega arith) })
-      (λ z. g.high (λ i p q. z.zero i p (omega arith)))
-      (eq_decides m 0)
 
 -- an entry is 0 exactly where its four bytes are
 module _ (t : Bytes) where
@@ -56,8 +34,8 @@ module _ (t : Bytes) where
     ]
   ]
 
--- the entries before k are good, and k is past the count
-module _ (s : Super) (m t : Bytes) (n k : ℕ) (past : n ≤ 12 + k) (few : k ≤ 256) (first : (j : ℕ) → j < k → SlotGood s m n (12 + j) (get t (4 * j) 4)) where
+-- the entries before k are good, and k is past the count, or past the last entry
+module _ (s : Super) (m t : Bytes) (n k : ℕ) (past : k < 256 → n ≤ 12 + k) (few : k ≤ 256) (first : (j : ℕ) → j < k → SlotGood s m n (12 + j) (get t (4 * j) 4)) where
   all_good : BlankFrom t (4 * k) → (j : ℕ) → j < 256 → SlotGood s m n (12 + j) (get t (4 * j) 4)
   all_good z j h = elim (dec_lt j k) [
     | yes l ↦ first j l

@@ -1,19 +1,17 @@
 -- Counting the entries that name each inode, and S7 inode by inode, as the code does it. Assumes nothing.
-use Rattle.std.specs.Prelude.{◌≡◌, ◌≢◌, Bool, true, false, List, ℕ, zero, suc, ◌+◌, ◌*◌, ◌≤◌, ◌<◌, get_or, length, set}
+use Rattle.std.specs.Prelude.{◌≡◌, ◌≢◌, List, ℕ, zero, suc, ◌+◌, ◌*◌, ◌≤◌, ◌<◌, get_or, length, set}
 use Rattle.std.proofs.Math.Path.{refl, ap}
 use Rattle.std.proofs.Common.{sym, ◌∙◌, arith, get_or-set_same, get_or-set_other}
-use Rattle.std.proofs.Math.Decide.{dec_lt, ℕ_discrete, dec_le}
+use Rattle.std.proofs.Math.Decide.{ℕ_discrete, dec_le}
 use borrow.Author.Tests.{le-leb, eq-eqb, ne_eqb}
 use Rattle.superblock.specs.declared.Super.{Super}
 use Rattle.base.specs.Bytes.{Bytes, bytes}
 use Rattle.superblock.specs.Disk.{Disk, disk, ino_of}
 use Rattle.superblock.specs.Geometry.{GoodNumbers}
-use Rattle.superblock.specs.Node.{Node, no_node}
 use Rattle.rules.specs.Tree.{Tree, tree, tally, names_in, names}
 use Rattle.base.specs.First.{sum_to, sum_more}
 use Rattle.rules.specs.Rules.{S7}
-use Rattle.base.specs.Decide.{Decides, so, not_so, alike}
-use Rattle.reads.specs.Read.{Is, Ends, ino_high}
+use Rattle.reads.specs.Read.{Ends, kind_in}
 
 -- y is x and r more, but for the number 0, where nothing is said; and it is not much more
 pub record Added (i x r y : ℕ) : Type 0 where
@@ -103,29 +101,14 @@ pub record LinkOk (t : Tree) (i n : ℕ) : Type 0 where
   pub other : 2 ≤ t.kind i → (t.nlink i ≡ n) × (1 ≤ t.nlink i) × (t.nlink i ≤ 32767)
 
 module _ (g : Super) (d : Bytes) (ok : GoodNumbers g) (m : Bytes) (counts : Counts g (tree (disk g d)) m) where
-  kind_in : (i : ℕ) → 1 ≤ (ino_of g d i).kind → i < g.ninodes
-  unfolding no_node
-  kind_in i h = elim (dec_lt i g.ninodes) [
-    | yes l ↦ l
-    | no l ↦ let z : (ino_of g d i).kind ≡ 0 = ap (λ (r : Node). r.kind) (ino_high g d i (omega (arith, ok.inodes_least)) (omega arith)) in absurd (omega arith)
-  ]
-
-  kind_pos : (i : ℕ) → 1 ≤ (ino_of g d i).kind → 0 < i
-  unfolding no_node
-  kind_pos i h = elim (dec_lt 0 i) [
-    | yes l ↦ l
-    | no l ↦ let z : (ino_of g d i).kind ≡ 0 = ap (λ (r : Node). r.kind) (Rattle.reads.specs.Read.ino_low g d i (omega arith)) in absurd (omega arith)
-  ]
-
   pub s7_to : (ino_of g d 1).nlink ≡ 1 → ((i : ℕ) → 0 < i → i < g.ninodes → LinkOk (tree (disk g d)) i (m i)) → S7 g (tree (disk g d))
   s7_to r f = record {
     root = r;
-    dirs = λ i e n. (f i (kind_pos i (omega arith)) (kind_in i (omega arith))).dir e n;
+    dirs = λ i e n. let w = kind_in g d i (omega arith) in (f i w.0 w.1).dir e n;
     others = λ i h.
-        let l : i < g.ninodes = kind_in i (omega arith) in
-        let p : 0 < i = kind_pos i (omega arith) in
-        let x = (f i p l).other h in
-        (x.0 ∙ counts i p (omega (arith, ok.inodes_most)), x.1, x.2);
+        let w = kind_in g d i (omega arith) in
+        let x = (f i w.0 w.1).other h in
+        (x.0 ∙ counts i w.0 (omega (arith, ok.inodes_most, w.1)), x.1, x.2);
   }
 
   pub s7_from : S7 g (tree (disk g d)) → (i : ℕ) → 0 < i → i < g.ninodes → LinkOk (tree (disk g d)) i (m i)
@@ -133,39 +116,6 @@ module _ (g : Super) (d : Bytes) (ok : GoodNumbers g) (m : Bytes) (counts : Coun
     dir = s.dirs i;
     other = λ h. let x = s.others i h in (x.0 ∙ sym (counts i p (omega (arith, ok.inodes_most))), x.1, x.2);
   }
-
--- ---- the returns of the test of one inode
-
-module _ (v : Disk) (i n d l : ℕ) (a : Is d (v.ino i).kind 65536) (b : Is l (v.ino i).nlink 65536) where
-  pub link_free : d ≡ 0 → Decides true (LinkOk (tree v) i n)
-  link_free z = so (record { dir = λ e _. absurd (omega (arith, a.eq)); other = λ h. absurd (omega (arith, a.eq)) })
-
-  pub link-root : d ≡ 1 → i ≡ 1 → Decides true (LinkOk (tree v) i n)
-  link-root z e = so (record { dir = λ _ m. absurd (m e); other = λ h. absurd (omega (arith, a.eq)) })
-
-  pub link_dir : (r : Bool) → d ≡ 1 → (i ≡ 1 → ⊥) → Decides r (l ≡ 2) → Decides r (LinkOk (tree v) i n)
-  link_dir r z m x = alike (λ e. record { dir = λ _ _. sym b.eq ∙ e; other = λ h. absurd (omega (arith, a.eq)) }) (λ o. b.eq ∙ o.dir (sym a.eq ∙ z) m) x
-
-  module _ (z : d ≡ 0 → ⊥) (y : d ≡ 1 → ⊥) where
-    two_up : 2 ≤ (v.ino i).kind
-    two_up = omega (arith, a.eq)
-
-    pub link-none : l < 1 → Decides false (LinkOk (tree v) i n)
-    link-none h = not_so (λ o. let q = (o.other two_up).1 in omega (arith, b.eq))
-
-    pub link_many : 32767 < l → Decides false (LinkOk (tree v) i n)
-    link_many h = not_so (λ o. let q = (o.other two_up).2 in omega (arith, b.eq))
-
-    pub link-count : (r : Bool) → 1 ≤ l → l ≤ 32767 → Decides r (l ≡ n) → Decides r (LinkOk (tree v) i n)
-    link-count r h k x = alike
-        (λ e. record { dir = λ e₂ _. absurd (omega (arith, a.eq)); other = λ _. (sym b.eq ∙ e, omega (arith, b.eq), omega (arith, b.eq)) })
-        (λ o. b.eq ∙ (o.other two_up).0) x
-
--- ---- loops
-
--- what holds from 1 to i - 1, and of i, holds from 1 to i
-pub from_more : (P : ℕ → Type 0) (i : ℕ) → ((k : ℕ) → 0 < k → k < i → P k) → P i → (k : ℕ) → 0 < k → k < i + 1 → P k
-from_more P i h p k z l = elim (ℕ_discrete k i) [ yes e ↦ rw e p | no e ↦ h k z (omega arith) ]
 
 pub row_small : (t : Tree) (j k : ℕ) (u : Bytes) (l : List ℕ) (x : ℕ) → Row t j k u (bytes l) → x < 65536 → get_or l x 0 ≤ u x + k
 row_small t j k u l x r h = r.le x h

@@ -1,27 +1,17 @@
 -- S5, byte by byte and entry by entry, as the code tests it. Assumes nothing.
-use Rattle.std.specs.Prelude.{◌≡◌, refl, ◌⊎◌, ◌≢◌, Bool, true, false, ℕ, zero, suc, ◌+◌, ◌-◌, ◌*◌, ◌/◌, ◌≤◌, ◌<◌}
-use Rattle.std.proofs.Common.{sym, ◌∙◌, inl, inr, arith, lt-ltb, le-ltb}
+use Rattle.std.specs.Prelude.{◌≡◌, refl, ◌⊎◌, ◌≢◌, Bool, true, ℕ, zero, suc, ◌+◌, ◌-◌, ◌*◌, ◌/◌, ◌≤◌, ◌<◌}
+use Rattle.std.proofs.Common.{sym, ◌∙◌, inl, inr, arith}
 use Rattle.std.proofs.Math.Path.{ap}
 use Rattle.std.proofs.Math.Decide.{dec_lt, ℕ_discrete}
 use Rattle.superblock.specs.declared.Super.{Super}
 use Rattle.base.specs.Bytes.{Bytes}
 use Rattle.base.specs.Number.{get, le_cong}
-use Rattle.superblock.specs.Disk.{Disk, disk, ino_of}
-use Rattle.superblock.specs.Geometry.{GoodNumbers}
-use Rattle.superblock.specs.Node.{Node, no_node}
+use Rattle.superblock.specs.Disk.{Disk, disk}
 use Rattle.rules.specs.Fit.{Fit}
 use Rattle.rules.specs.Tree.{Tree, tree, num_of, name_of, dots, SameName, GoodName}
 use Rattle.rules.specs.Rules.{Dir, S3, S5}
-use Rattle.base.specs.Decide.{Decides, so, not_so, alike}
-use Rattle.reads.specs.Read.{Is, Ends, Spot, ends-here, ino_high}
-
-pub dots_in : (n t : ℕ) → t < n → 46 ≡ dots n t
-unfolding dots
-dots_in n t h = rw (lt-ltb t n h)
-
-pub dots_past : (n t : ℕ) → n ≤ t → 0 ≡ dots n t
-unfolding dots
-dots_past n t h = rw (le-ltb t n h)
+use Rattle.base.specs.Decide.{Decides, so, alike}
+use Rattle.reads.specs.Read.{Is, Ends, Spot, ends-here, kind_in}
 
 -- the name of the entry at address a
 abbrev pub name_at : Bytes → ℕ → Bytes
@@ -34,26 +24,6 @@ pub record LetterOk (f : ℕ → ℕ) (t : ℕ) : Type 0 where
   pub no_slash : f t ≢ 47
   pub some : t ≡ 0 → f t ≢ 0
   pub after : 1 ≤ t → f (t - 1) ≡ 0 → f t ≡ 0
-
--- bytes x at t, and y before
-module _ (f : ℕ → ℕ) (t x : ℕ) (a : x ≡ f t) where
-  pub letter_slash : x ≡ 47 → Decides false (LetterOk f t)
-  letter_slash e = not_so (λ o. o.no_slash (sym (a) ∙ e))
-
-  module _ (n : x ≡ 47 → ⊥) where
-    -- a zero that is not the first byte is fine
-    pub letter_zero : (r : Bool) → x ≡ 0 → Decides r (t ≢ 0) → Decides r (LetterOk f t)
-    letter_zero r e d = alike
-        (λ z. record { no_slash = λ y. n (a ∙ y); some = λ y. absurd (z y); after = λ _ _. sym (a) ∙ e })
-        (λ o z. o.some z (sym (a) ∙ e)) d
-
-    pub letter_first : (x ≡ 0 → ⊥) → t ≡ 0 → Decides true (LetterOk f t)
-    letter_first e z = so (record { no_slash = λ y. n (a ∙ y); some = λ _ y. e (a ∙ y); after = λ l _. absurd (omega arith) })
-
-    pub letter_next : (y : ℕ) (r : Bool) → (x ≡ 0 → ⊥) → (t ≡ 0 → ⊥) → y ≡ f (t - 1) → Decides r (y ≢ 0) → Decides r (LetterOk f t)
-    letter_next y r e z b d = alike
-        (λ p. record { no_slash = λ q. n (a ∙ q); some = λ q. absurd (z q); after = λ _ q. absurd (p (b ∙ q)) })
-        (λ o p. e (a ∙ o.after (omega arith) (sym (b) ∙ p))) d
 
 module _ (f : ℕ → ℕ) where
   pub name_to : ((t : ℕ) → t < 14 → LetterOk f t) → GoodName f
@@ -100,15 +70,15 @@ abbrev pub Differs : Bytes → ℕ → ℕ → Type 0
 Differs d a b = get d b 2 ≢ 0 → SameName (name_at d a) (name_at d b) → ⊥
 
 -- same names have the same number in the four bytes at o
-pub words_differ : (d : Bytes) (a b o x y : ℕ) → o + 4 ≤ 14 → Is x (get d (a + 2 + o) 4) 4294967296 → Is y (get d (b + 2 + o) 4) 4294967296 → (x ≡ y → ⊥) → Decides true (Differs d a b)
-words_differ d a b o x y l p q n = so (λ _ s. n (p.eq ∙ le_cong 4 (λ k. d (a + 2 + o + k)) (λ k. d (b + 2 + o + k)) (λ k m. ap d (omega arith) ∙ s (o + k) (omega arith) ∙ ap d (omega arith)) ∙ sym q.eq))
+pub words_differ : (d : Bytes) (a b o p q : ℕ) → o + 4 ≤ 14 → p ≡ a + 2 + o → q ≡ b + 2 + o → (get d p 4 ≡ get d q 4 → ⊥) → Decides true (Differs d a b)
+words_differ d a b o p q l e h n = so (λ _ s. n (rw (e, h) (le_cong 4 (λ k. d (a + 2 + o + k)) (λ k. d (b + 2 + o + k)) (λ k m. ap d (omega arith) ∙ s (o + k) (omega arith) ∙ ap d (omega arith)))))
 
-module _ (d : Bytes) (v : Disk) (i k l a b : ℕ) (p : Spot d v i k a) (q : Spot d v i l b) where
-  pub differs_to : Differs d a b → num_of v i l ≢ 0 → SameName (name_of v i k) (name_of v i l) → ⊥
-  differs_to h z s = h (λ e. z (sym q.num ∙ e)) (λ t m. p.name t m ∙ s t m ∙ sym (q.name t m))
-
-  pub differs_from : (num_of v i l ≢ 0 → SameName (name_of v i k) (name_of v i l) → ⊥) → Differs d a b
-  differs_from h z s = h (λ e. z (q.num ∙ e)) (λ t m. sym (p.name t m) ∙ s t m ∙ q.name t m)
+-- two entries at their addresses
+pub differs_at : {d : Bytes} {v : Disk} {i k l a b : ℕ} {r : Bool} → Spot d v i k a → Spot d v i l b → Decides r (Differs d a b) → Decides r (num_of v i l ≢ 0 → SameName (name_of v i k) (name_of v i l) → ⊥)
+differs_at p q x = alike
+    (λ h z s. h (λ e. z (sym q.num ∙ e)) (λ t m. p.name t m ∙ s t m ∙ sym (q.name t m)))
+    (λ h z s. h (λ e. z (q.num ∙ e)) (λ t m. sym (p.name t m) ∙ s t m ∙ q.name t m))
+    x
 
 -- a test of the name at a is one of entry k's
 module _ (d : Bytes) (v : Disk) (i k a : ℕ) (p : Spot d v i k a) (r : Bool) where
@@ -125,80 +95,53 @@ module _ (d : Bytes) (v : Disk) (i k a : ℕ) (p : Spot d v i k a) (r : Bool) wh
         padded = λ s t l m z. sym (e t m) ∙ n.padded s t l m (e s (omega arith) ∙ z);
       }
 
-module _ (v : Disk) (i k x : ℕ) (a : Is x (num_of v i k) 65536) where
-  pub entry_free : x ≡ 0 → Decides true (EntryOk (tree v) i k)
-  entry_free e =
-      let z : num_of v i k ≡ 0 = sym a.eq ∙ e in
-      so (record { live = λ _ n. absurd (n z); named = λ _ n. absurd (n z); fresh = λ n. absurd (n z) })
+module _ (v : Disk) (i k x d : ℕ) (a : Is x (num_of v i k) 65536) (n : x ≡ 0 → ⊥) (f : FreshName (tree v) i k) (l : 2 ≤ k) (b : Is d (v.ino x).kind 65536) where
+  used : num_of v i k ≢ 0
+  used e = n (a.eq ∙ e)
 
-  module _ (n : x ≡ 0 → ⊥) where
-    used : num_of v i k ≢ 0
-    used e = n (a.eq ∙ e)
+  same_kind : d ≡ (v.ino (num_of v i k)).kind
+  same_kind = b.eq ∙ ap (λ (y : ℕ). (v.ino y).kind) a.eq
 
-    pub entry_twice : (FreshName (tree v) i k → ⊥) → Decides false (EntryOk (tree v) i k)
-    entry_twice h = not_so (λ o. h (o.fresh used))
-
-    module _ (f : FreshName (tree v) i k) where
-      pub entry-dots : k < 2 → Decides true (EntryOk (tree v) i k)
-      entry-dots l = so (record { live = λ h _. absurd (omega arith); named = λ h _. absurd (omega arith); fresh = λ _. f })
-
-      module _ (l : 2 ≤ k) (d : ℕ) (b : Is d (v.ino x).kind 65536) where
-        same_kind : d ≡ (v.ino (num_of v i k)).kind
-        same_kind = b.eq ∙ ap (λ (y : ℕ). (v.ino y).kind) a.eq
-
-        pub entry_dead : d ≡ 0 → Decides false (EntryOk (tree v) i k)
-        entry_dead e = not_so (λ o. let q = o.live l used in omega (arith, same_kind))
-
-        pub entry_name : (r : Bool) → (d ≡ 0 → ⊥) → Decides r (GoodName (name_of v i k)) → Decides r (EntryOk (tree v) i k)
-        entry_name r e x₂ = alike
-            (λ h. record { live = λ _ _. omega (arith, same_kind); named = λ _ _. h; fresh = λ _. f })
-            (λ o. o.named l used) x₂
+  pub entry_name : (r : Bool) → (d ≡ 0 → ⊥) → Decides r (GoodName (name_of v i k)) → Decides r (EntryOk (tree v) i k)
+  entry_name r e x₂ = alike
+      (λ h. record { live = λ _ _. omega (arith, same_kind); named = λ _ _. h; fresh = λ _. f })
+      (λ o. o.named l used) x₂
 
 -- ---- directories
 
-module _ (v : Disk) (i n x : ℕ) (ends : Ends v i n) (a : Is x (num_of v i 0) 65536) where
-  pub dir_self : (x ≡ i → ⊥) → Decides false (Dir (tree v) i)
-  dir_self h = not_so (λ d. h (a.eq ∙ d.self))
+module _ (v : Disk) (i n x : ℕ) (ends : Ends v i n) (a : Is x (num_of v i 0) 65536) (s : x ≡ i) where
+  pub dir_entries : (r : Bool) → SameName (name_of v i 0) (dots 1) → SameName (name_of v i 1) (dots 2) → Decides r ((k : ℕ) → k < n → EntryOk (tree v) i k) → Decides r (Dir (tree v) i)
+  dir_entries r p q d = alike to from d
+    where
+      inside : (k : ℕ) → num_of v i k ≢ 0 → k < n
+      inside k h = elim (dec_lt k n) [ yes l ↦ l | no l ↦ absurd (h (ends.gone k (omega arith))) ]
 
-  module _ (s : x ≡ i) where
-    pub dir_entries : (r : Bool) → SameName (name_of v i 0) (dots 1) → SameName (name_of v i 1) (dots 2) → Decides r ((k : ℕ) → k < n → EntryOk (tree v) i k) → Decides r (Dir (tree v) i)
-    dir_entries r p q d = alike to from d
-      where
-        inside : (k : ℕ) → num_of v i k ≢ 0 → k < n
-        inside k h = elim (dec_lt k n) [ yes l ↦ l | no l ↦ absurd (h (ends.gone k (omega arith))) ]
+      flip : (f g : ℕ → ℕ) → SameName f g → SameName g f
+      flip f g h t l = sym (h t l)
 
-        flip : (f g : ℕ → ℕ) → SameName f g → SameName g f
-        flip f g h t l = sym (h t l)
+      to : ((k : ℕ) → k < n → EntryOk (tree v) i k) → Dir (tree v) i
+      to f = record {
+        self = sym a.eq ∙ s;
+        self_name = p;
+        up_name = q;
+        live = λ k l h. (f k (inside k h)).live l h;
+        named = λ k l h. (f k (inside k h)).named l h;
+        once = λ k l hk hl e. elim (dec_lt l k) [
+          | yes m ↦ absurd ((f k (inside k hk)).fresh hk l m hl e)
+          | no m ↦ elim (dec_lt k l) [ yes m₂ ↦ absurd ((f l (inside l hl)).fresh hl k m₂ hk (flip (name_of v i k) (name_of v i l) e)) | no m₂ ↦ omega arith ]
+        ];
+      }
 
-        to : ((k : ℕ) → k < n → EntryOk (tree v) i k) → Dir (tree v) i
-        to f = record {
-          self = sym a.eq ∙ s;
-          self_name = p;
-          up_name = q;
-          live = λ k l h. (f k (inside k h)).live l h;
-          named = λ k l h. (f k (inside k h)).named l h;
-          once = λ k l hk hl e. elim (dec_lt l k) [
-            | yes m ↦ absurd ((f k (inside k hk)).fresh hk l m hl e)
-            | no m ↦ elim (dec_lt k l) [ yes m₂ ↦ absurd ((f l (inside l hl)).fresh hl k m₂ hk (flip (name_of v i k) (name_of v i l) e)) | no m₂ ↦ omega arith ]
-          ];
-        }
+      from : Dir (tree v) i → (k : ℕ) → k < n → EntryOk (tree v) i k
+      from e k l = record {
+        live = e.live k;
+        named = e.named k;
+        fresh = λ h j m hj same. let z = e.once k j h hj same in omega arith;
+      }
 
-        from : Dir (tree v) i → (k : ℕ) → k < n → EntryOk (tree v) i k
-        from e k l = record {
-          live = e.live k;
-          named = e.named k;
-          fresh = λ h j m hj same. let z = e.once k j h hj same in omega arith;
-        }
-
-module _ (g : Super) (ok : GoodNumbers g) (d : Bytes) where
+module _ (g : Super) (d : Bytes) where
   pub s5_to : ((i : ℕ) → i < g.ninodes → ((disk g d).ino i).kind ≡ 1 → Dir (tree (disk g d)) i) → S5 (tree (disk g d))
-  unfolding no_node
-  s5_to f = record {
-    each = λ i h. elim (dec_lt i g.ninodes) [
-      | yes l ↦ f i l h
-      | no l ↦ let z : (ino_of g d i).kind ≡ 0 = ap (λ (r : Node). r.kind) (ino_high g d i (omega (arith, ok.inodes_least)) (omega arith)) in absurd (omega arith)
-    ];
-  }
+  s5_to f = record { each = λ i h. f i (kind_in g d i (omega arith)).1 h }
 
 -- the directory i, of s bytes
 pub listing : (g : Super) (v : Disk) (i d s : ℕ) → S3 g v → Is d (v.ino i).kind 65536 → d ≡ 1 → Is s (v.ino i).size 4294967296 → Listing v i (s / 16)
@@ -207,9 +150,3 @@ listing g v i d s s3 a e b = record { dir = sym a.eq ∙ e; ends = ends-here v i
     least : ((v.ino i).kind ≡ 0) ⊎ Fit g v (v.ino i) → 2 ≤ s / 16
     least (inl z) = absurd (omega (arith, a.eq))
     least (inr f) = let q = (f.shape.dir (sym a.eq ∙ e)).0 in omega (arith, b.eq)
-
-pub not_dir : (v : Disk) (i d : ℕ) → Is d (v.ino i).kind 65536 → (d ≡ 1 → ⊥) → Decides true ((v.ino i).kind ≡ 1 → Dir (tree v) i)
-not_dir v i d a h = so (λ e. absurd (h (a.eq ∙ e)))
-
-pub is_dir : (v : Disk) (i d : ℕ) (r : Bool) → Is d (v.ino i).kind 65536 → d ≡ 1 → Decides r (Dir (tree v) i) → Decides r ((v.ino i).kind ≡ 1 → Dir (tree v) i)
-is_dir v i d r a e x = alike (λ h _. h) (λ h. h (sym a.eq ∙ e)) x

@@ -6,15 +6,15 @@ use Prim.Native.Nat.{ℕ, zero, suc, ◌+◌, ◌≤◌, ◌<◌}
 use Rattle.std.proofs.Math.Decide.{dec_lt, ℕ_discrete}
 use Rattle.base.specs.Bytes.{Bytes}
 use Rattle.base.specs.First.{sum_to}
-use Rattle.base.specs.Decide.{Decides, so, alike}
+use Rattle.base.specs.Decide.{Decides, alike}
 use Rattle.superblock.specs.declared.Super.{Super}
 use Rattle.superblock.specs.Geometry.{GoodNumbers}
-use Rattle.superblock.specs.Node.{Node, no_node}
-use Rattle.superblock.specs.Disk.{Disk, disk, ino_of}
+use Rattle.superblock.specs.Node.{no_node}
+use Rattle.superblock.specs.Disk.{disk, ino_of}
 use Rattle.rules.specs.Fit.{Fit}
 use Rattle.rules.specs.Tree.{Tree, tree, num_of, tally, names_in, names, up, follow, Listed, Reaches}
 use Rattle.rules.specs.Rules.{S3, Below, S6}
-use Rattle.reads.specs.Read.{Is, Ends, ino_low, ino_high, num_file, num_gone}
+use Rattle.reads.specs.Read.{Ends, kind_in, kind_none, num_file, num_gone}
 use Rattle.links.specs.Counts.{Counts, tally-here}
 use Rattle.parents.specs.Reach.{follow_add, bounded}
 
@@ -83,19 +83,8 @@ tally_from t i j k h = go (leb 2 k) refl (eqb (t.num j k) i) refl
     go false p b q = absurd (h (rw p))
 
 module _ (g : Super) (ok : GoodNumbers g) (d : Bytes) (s3 : S3 g (disk g d)) where
-  kind_in : (i : ℕ) → (ino_of g d i).kind ≡ 1 → i < g.ninodes
-  unfolding no_node
-  kind_in i h = elim (dec_lt i g.ninodes) [
-    | yes l ↦ l
-    | no l ↦ let z : (ino_of g d i).kind ≡ 0 = ap (λ (r : Node). r.kind) (ino_high g d i (omega (arith, ok.inodes_least)) (omega arith)) in absurd (omega arith)
-  ]
-
-  kind_pos : (i : ℕ) → (ino_of g d i).kind ≡ 1 → 0 < i
-  unfolding no_node
-  kind_pos i h = elim (dec_lt 0 i) [
-    | yes l ↦ l
-    | no l ↦ let z : (ino_of g d i).kind ≡ 0 = ap (λ (r : Node). r.kind) (ino_low g d i (omega arith)) in absurd (omega arith)
-  ]
+  seen : (i : ℕ) → (ino_of g d i).kind ≡ 1 → (0 < i) × (i < g.ninodes)
+  seen i h = kind_in g d i (omega arith)
 
   -- an entry that is not free is in a directory, and is one of its first 17,152
   dir_of : (j k : ℕ) → num_of (disk g d) j k ≢ 0 → (ino_of g d j).kind ≡ 1
@@ -118,7 +107,7 @@ module _ (g : Super) (ok : GoodNumbers g) (d : Bytes) (s3 : S3 g (disk g d)) whe
   pub is_home : S6 g (tree (disk g d)) → (j : ℕ) → j < g.ninodes → (k : ℕ) → 2 ≤ k → HomeOk (tree (disk g d)) j k
   is_home s j l k m h n = elim (ℕ_discrete (up (tree (disk g d)) x) j) [
     | yes e ↦ e
-    | no e ↦ absurd (let q : 2 ≤ names g (tree (disk g d)) x = two_parts g.ninodes (names_in (tree (disk g d)) x) (up (tree (disk g d)) x) j (kind_in (up (tree (disk g d)) x) b.parent) l e (named_in x (up (tree (disk g d)) x) b.listed.entry (kind_pos x h) b.listed.past b.listed.here) (named_in x j k (kind_pos x h) m refl) in omega (arith, b.one))
+    | no e ↦ absurd (let q : 2 ≤ names g (tree (disk g d)) x = two_parts g.ninodes (names_in (tree (disk g d)) x) (up (tree (disk g d)) x) j (seen (up (tree (disk g d)) x) b.parent).1 l e (named_in x (up (tree (disk g d)) x) b.listed.entry (seen x h).0 b.listed.past b.listed.here) (named_in x j k (seen x h).0 m refl) in omega (arith, b.one))
   ]
     where
       x : ℕ
@@ -129,12 +118,12 @@ module _ (g : Super) (ok : GoodNumbers g) (d : Bytes) (s3 : S3 g (disk g d)) whe
 
   module _ (m : Bytes) (counts : Counts g (tree (disk g d)) m) where
     pub is_once : S6 g (tree (disk g d)) → (i : ℕ) → i < g.ninodes → Once (tree (disk g d)) i (m i)
-    is_once s i l h n = counts i (kind_pos i h) (omega (arith, ok.inodes_most)) ∙ (s.below i h n).one
+    is_once s i l h n = counts i (seen i h).0 (omega (arith, ok.inodes_most)) ∙ (s.below i h n).one
 
     module _ (root : num_of (disk g d) 1 1 ≡ 1) (once : (i : ℕ) → i < g.ninodes → Once (tree (disk g d)) i (m i))
         (home : (j : ℕ) → j < g.ninodes → (k : ℕ) → 2 ≤ k → HomeOk (tree (disk g d)) j k) where
       one : (i : ℕ) → (ino_of g d i).kind ≡ 1 → i ≢ 1 → names g (tree (disk g d)) i ≡ 1
-      one i h n = sym (counts i (kind_pos i h) (omega (arith, ok.inodes_most, kind_in i h))) ∙ once i (kind_in i h) h n
+      one i h n = sym (counts i (seen i h).0 (omega (arith, ok.inodes_most, (seen i h).1))) ∙ once i (seen i h).1 h n
 
       -- where a directory's one entry is
       pub placed : (i : ℕ) → (ino_of g d i).kind ≡ 1 → i ≢ 1 → ((ino_of g d (up (tree (disk g d)) i)).kind ≡ 1) × Listed (tree (disk g d)) (up (tree (disk g d)) i) i
@@ -143,7 +132,7 @@ module _ (g : Super) (ok : GoodNumbers g) (d : Bytes) (s3 : S3 g (disk g d)) whe
           let b = found 17152 (tally (tree (disk g d)) i a.0) a.2 in
           let e = tally_from (tree (disk g d)) i a.0 b.0 b.2 in
           let u : up (tree (disk g d)) i ≡ a.0 = at a.0 b.0 a.1 e.0 e.1 in
-          let p = kind_pos i h in
+          let p = (seen i h).0 in
           (ap (λ (y : ℕ). (ino_of g d y).kind) u ∙ dir_of a.0 b.0 (λ z. let y = e.1 in omega arith), record { entry = b.0; past = e.0; here = ap (λ (y : ℕ). num_of (disk g d) y b.0) u ∙ e.1 })
         where
           at : (j k : ℕ) → j < g.ninodes → 2 ≤ k → num_of (disk g d) j k ≡ i → up (tree (disk g d)) i ≡ j
@@ -158,13 +147,13 @@ module _ (g : Super) (ok : GoodNumbers g) (d : Bytes) (s3 : S3 g (disk g d)) whe
       all_dirs (suc k) i h = all_dirs k (up (tree (disk g d)) i) (parents i h)
 
       pub stays : (i : ℕ) → ((disk g d).ino i).kind ≡ 1 → Stays g.ninodes (tree (disk g d)) i
-      stays i h = record { root = root; below = λ k. kind_in (follow (up (tree (disk g d))) k i) (all_dirs k i h) }
+      stays i h = record { root = root; below = λ k. (seen (follow (up (tree (disk g d))) k i) (all_dirs k i h)).1 }
 
       pub s6_to : m 1 ≡ 0 → ((i : ℕ) → i < g.ninodes → ((disk g d).ino i).kind ≡ 1 → Reaches (tree (disk g d)) i) → S6 g (tree (disk g d))
       s6_to none r = record {
         root_up = root;
         root_once = sym (counts 1 (omega arith) (omega arith)) ∙ none;
-        below = λ i h n. record { one = one i h n; parent = (placed i h n).0; listed = (placed i h n).1; reaches = r i (kind_in i h) h };
+        below = λ i h n. record { one = one i h n; parent = (placed i h n).0; listed = (placed i h n).1; reaches = r i (seen i h).1 h };
       }
 
   pub s6_reaches : S6 g (tree (disk g d)) → (i : ℕ) → i < g.ninodes → ((disk g d).ino i).kind ≡ 1 → Reaches (tree (disk g d)) i
@@ -174,36 +163,6 @@ module _ (g : Super) (ok : GoodNumbers g) (d : Bytes) (s3 : S3 g (disk g d)) whe
     | no e ↦ (s.below i h e).reaches
   ]
 
--- ---- the returns
-
-pub third_more : (P : ℕ → Type 0) (i : ℕ) → ((k : ℕ) → 2 ≤ k → k < i → P k) → P i → (k : ℕ) → 2 ≤ k → k < i + 1 → P k
-third_more P i h p k z l = elim (ℕ_discrete k i) [ yes e ↦ rw e p | no e ↦ h k z (omega arith) ]
-
-module _ (v : Disk) (i n d : ℕ) (a : Is d (v.ino i).kind 65536) where
-  pub once_file : (d ≡ 1 → ⊥) → Decides true (Once (tree v) i n)
-  once_file h = so (λ e _. absurd (h (a.eq ∙ e)))
-
-  pub once_root : i ≡ 1 → Decides true (Once (tree v) i n)
-  once_root e = so (λ _ m. absurd (m e))
-
-  pub once_here : (r : Bool) → d ≡ 1 → (i ≡ 1 → ⊥) → Decides r (n ≡ 1) → Decides r (Once (tree v) i n)
-  once_here r h m x = alike (λ e _ _. e) (λ f. f (sym a.eq ∙ h) m) x
-
-module _ (v : Disk) (j k x d : ℕ) (a : Is x (num_of v j k) 65536) (b : Is d (v.ino x).kind 65536) where
-  same : d ≡ (v.ino (num_of v j k)).kind
-  same = b.eq ∙ ap (λ (y : ℕ). (v.ino y).kind) a.eq
-
-  pub home_file : (d ≡ 1 → ⊥) → Decides true (HomeOk (tree v) j k)
-  home_file h = so (λ e _. absurd (h (same ∙ e)))
-
-  pub home_root : x ≡ 1 → Decides true (HomeOk (tree v) j k)
-  home_root e = so (λ _ m. absurd (m (sym a.eq ∙ e)))
-
-  pub home_here : (u : ℕ) (r : Bool) → d ≡ 1 → (x ≡ 1 → ⊥) → Is u (num_of v x 1) 65536 → Decides r (u ≡ j) → Decides r (HomeOk (tree v) j k)
-  home_here u r h m c y =
-      let e : u ≡ num_of v (num_of v j k) 1 = c.eq ∙ ap (λ (z : ℕ). num_of v z 1) a.eq in
-      alike (λ z _ _. sym e ∙ z) (λ f. e ∙ f (sym same ∙ h) (λ z. m (a.eq ∙ z))) y
-
 -- past the end of a directory there is nothing to ask
 pub row-all : (g : Super) (d : Bytes) (j n : ℕ) (r : Bool) → Ends (disk g d) j n → Decides r ((k : ℕ) → 2 ≤ k → k < n → HomeOk (tree (disk g d)) j k) → Decides r ((k : ℕ) → 2 ≤ k → HomeOk (tree (disk g d)) j k)
 unfolding no_node
@@ -212,4 +171,4 @@ row-all g d j n r e x = alike
     (λ f k l _. f k l) x
   where
     none : (k : ℕ) → num_of (disk g d) j k ≡ 0 → (ino_of g d (num_of (disk g d) j k)).kind ≡ 1 → ⊥
-    none k z h = let y : (ino_of g d (num_of (disk g d) j k)).kind ≡ 0 = ap (λ (q : Node). q.kind) (ino_low g d (num_of (disk g d) j k) (omega arith)) in omega arith
+    none k z h = absurd (omega (arith, kind_none g d (num_of (disk g d) j k) (λ l. absurd (omega arith))))

@@ -5,169 +5,99 @@
 ghost use Rattle.std.specs.Prelude.{◌≡◌, ℕ, ◌+◌, ◌*◌, ◌<◌, ◌≤◌, length};
 ghost use Rattle.base.specs.Bytes.{bytes};
 ghost use Rattle.base.specs.Decide.{Decides};
-ghost use Rattle.superblock.specs.Geometry.{GoodNumbers};
 ghost use Rattle.rules.specs.Tree.{tree, Reaches};
 ghost use Rattle.rules.specs.Rules.{S3, S6};
 ghost use Rattle.reads.specs.Read.{Ends, shown};
 ghost use Rattle.links.specs.Counts.{Counts};
 ghost use Rattle.parents.specs.Climb.{Once, HomeOk, Stays};
 
-use superblock::Super;
+use reads::Card;
 
 // Inode i, which n entries name, has one if it is a directory and not the root.
-pub fn once_ok(image: &[u8], g: Super, i: usize, n: u32) -> bool
-    requires { GoodNumbers g }
-    ensures { Decides result (Once (tree (shown g image.entry)) i n) }
+pub fn once_ok(card: &Card<'_>, i: usize, n: u32) -> bool
+    ensures { Decides result (Once (tree (shown card.now)) i n) }
 {
-    let d = reads::kind(image, g, i);
-    if d != 1 {
-        return true;
-    }
-    if i == 1 {
-        return true;
-    }
-    n == 1
+    card.kind(i) != 1 || i == 1 || n == 1
 }
 
-pub fn all_once(image: &[u8], g: Super, work: &[u32]) -> bool
-    requires { GoodNumbers g × (65536 ≤ length work.now) }
-    ensures { Decides result ((i : ℕ) → i < g.ninodes → Once (tree (shown g image.entry)) i (bytes work.now i)) }
+pub fn all_once(card: &Card<'_>, work: &[u32]) -> bool
+    requires { 65536 ≤ length work.now }
+    ensures { Decides result ((i : ℕ) → i < card.now.sb.ninodes → Once (tree (shown card.now)) i (bytes work.now i)) }
 {
-    let ninodes = g.ninodes as usize;
-    let mut i: usize = 0;
-    while i < ninodes {
-        let n = work[i];
-        let ok = once_ok(image, g, i, n);
-        if !ok {
-            return false;
-        }
-        i += 1;
-    }
-    true
+    (0..card.sb.ninodes as usize).all(|i| once_ok(card, i, work[i]))
 }
 
 // Entry k of directory j, if it names a directory that is not the root, names one whose ".." is j.
-pub fn home_ok(image: &[u8], g: Super, j: usize, k: usize) -> bool
-    requires { GoodNumbers g × S3 g (shown g image) × (k < 17152) }
-    ensures { Decides result (HomeOk (tree (shown g image.entry)) j k) }
+pub fn home_ok(card: &Card<'_>, j: usize, k: usize) -> bool
+    requires { S3 card.now.sb (shown card.now) × (k < 17152) }
+    ensures { Decides result (HomeOk (tree (shown card.now)) j k) }
 {
-    let x = reads::num_of(image, g, j, k);
-    let d = reads::kind(image, g, x);
-    if d != 1 {
-        return true;
-    }
-    if x == 1 {
-        return true;
-    }
-    let u = reads::num_of(image, g, x, 1);
-    u == j
+    let x = card.num_of(j, k);
+    card.kind(x) != 1 || x == 1 || card.num_of(x, 1) == j
 }
 
-// Its entries from the third on, of n.
-pub fn row_home(image: &[u8], g: Super, j: usize, n: usize) -> bool
-    requires { GoodNumbers g × S3 g (shown g image) × (n ≤ 17152) }
-    ensures { Decides result ((k : ℕ) → 2 ≤ k → k < n → HomeOk (tree (shown g image.entry)) j k) }
+// Its entries from the third on.
+pub fn dir_home(card: &Card<'_>, j: usize) -> bool
+    requires { S3 card.now.sb (shown card.now) }
+    ensures { Decides result ((k : ℕ) → 2 ≤ k → HomeOk (tree (shown card.now)) j k) }
 {
-    let mut k: usize = 2;
-    while k < n {
-        let ok = home_ok(image, g, j, k);
-        if !ok {
-            return false;
-        }
-        k += 1;
-    }
-    true
+    (2..card.entries_of(j)).all(|k| home_ok(card, j, k))
 }
 
-pub fn dir_home(image: &[u8], g: Super, j: usize) -> bool
-    requires { GoodNumbers g × S3 g (shown g image) }
-    ensures { Decides result ((k : ℕ) → 2 ≤ k → HomeOk (tree (shown g image.entry)) j k) }
+pub fn all_home(card: &Card<'_>) -> bool
+    requires { S3 card.now.sb (shown card.now) }
+    ensures { Decides result ((j : ℕ) → j < card.now.sb.ninodes → (k : ℕ) → 2 ≤ k → HomeOk (tree (shown card.now)) j k) }
 {
-    let n = reads::entries_of(image, g, j);
-    row_home(image, g, j, n)
-}
-
-pub fn all_home(image: &[u8], g: Super) -> bool
-    requires { GoodNumbers g × S3 g (shown g image) }
-    ensures { Decides result ((j : ℕ) → j < g.ninodes → (k : ℕ) → 2 ≤ k → HomeOk (tree (shown g image.entry)) j k) }
-{
-    let ninodes = g.ninodes as usize;
-    let mut j: usize = 0;
-    while j < ninodes {
-        let ok = dir_home(image, g, j);
-        if !ok {
-            return false;
-        }
-        j += 1;
-    }
-    true
+    (0..card.sb.ninodes as usize).all(|j| dir_home(card, j))
 }
 
 // Following ".." from directory i reaches the root.
-pub fn climbs(image: &[u8], g: Super, i: usize) -> bool
-    requires { GoodNumbers g × S3 g (shown g image) × Stays g.ninodes (tree (shown g image)) i }
-    ensures { Decides result (Reaches (tree (shown g image.entry)) i) }
+pub fn climbs(card: &Card<'_>, i: usize) -> bool
+    requires { S3 card.now.sb (shown card.now) × Stays card.now.sb.ninodes (tree (shown card.now)) i }
+    ensures { Decides result (Reaches (tree (shown card.now)) i) }
 {
-    let ninodes = g.ninodes as usize;
     let mut x = i;
-    let mut n: usize = 0;
-    while n < ninodes {
+    for _n in 0..card.sb.ninodes {
         if x == 1 {
             return true;
         }
-        x = reads::num_of(image, g, x, 1);
-        n += 1;
+        x = card.num_of(x, 1);
     }
     x == 1
 }
 
 // The same, if inode i is a directory.
-pub fn climbs_if(image: &[u8], g: Super, i: usize) -> bool
-    requires { GoodNumbers g × S3 g (shown g image) × (((shown g image).ino i).kind ≡ 1 → Stays g.ninodes (tree (shown g image)) i) }
-    ensures { Decides result (((shown g image.entry).ino i).kind ≡ 1 → Reaches (tree (shown g image.entry)) i) }
+pub fn climbs_if(card: &Card<'_>, i: usize) -> bool
+    requires { S3 card.now.sb (shown card.now) × (((shown card.now).ino i).kind ≡ 1 → Stays card.now.sb.ninodes (tree (shown card.now)) i) }
+    ensures { Decides result (((shown card.now).ino i).kind ≡ 1 → Reaches (tree (shown card.now)) i) }
 {
-    let d = reads::kind(image, g, i);
-    if d != 1 {
-        return true;
-    }
-    climbs(image, g, i)
+    card.kind(i) != 1 || climbs(card, i)
 }
 
-pub fn all_climb(image: &[u8], g: Super) -> bool
-    requires { GoodNumbers g × S3 g (shown g image) × ((i : ℕ) → ((shown g image).ino i).kind ≡ 1 → Stays g.ninodes (tree (shown g image)) i) }
-    ensures { Decides result ((i : ℕ) → i < g.ninodes → ((shown g image.entry).ino i).kind ≡ 1 → Reaches (tree (shown g image.entry)) i) }
+pub fn all_climb(card: &Card<'_>) -> bool
+    requires { S3 card.now.sb (shown card.now) × ((i : ℕ) → ((shown card.now).ino i).kind ≡ 1 → Stays card.now.sb.ninodes (tree (shown card.now)) i) }
+    ensures { Decides result ((i : ℕ) → i < card.now.sb.ninodes → ((shown card.now).ino i).kind ≡ 1 → Reaches (tree (shown card.now)) i) }
 {
-    let ninodes = g.ninodes as usize;
-    let mut i: usize = 0;
-    while i < ninodes {
-        let ok = climbs_if(image, g, i);
-        if !ok {
+    for i in 0..card.sb.ninodes as usize {
+        if !climbs_if(card, i) {
             return false;
         }
-        i += 1;
     }
     true
 }
 
-pub fn s6(image: &[u8], g: Super, work: &[u32]) -> bool
-    requires { GoodNumbers g × S3 g (shown g image) × (65536 ≤ length work.now) × Counts g (tree (shown g image)) (bytes work.now) }
-    ensures { Decides result (S6 g (tree (shown g image.entry))) }
+pub fn s6(card: &Card<'_>, work: &[u32]) -> bool
+    requires { S3 card.now.sb (shown card.now) × (65536 ≤ length work.now) × Counts card.now.sb (tree (shown card.now)) (bytes work.now) }
+    ensures { Decides result (S6 card.now.sb (tree (shown card.now))) }
 {
-    let u = reads::num_of(image, g, 1, 1);
-    if u != 1 {
+    if card.num_of(1, 1) != 1 {
         return false;
     }
-    let n = work[1];
-    if n != 0 {
+    if work[1] != 0 {
         return false;
     }
-    let once = all_once(image, g, work);
-    if !once {
+    if !all_once(card, work) {
         return false;
     }
-    let home = all_home(image, g);
-    if !home {
-        return false;
-    }
-    all_climb(image, g)
+    all_home(card) && all_climb(card)
 }

@@ -1,6 +1,6 @@
 -- A path ends at its first NUL: what follows it changes no component. So the length that refusal 2 looks at is that of the path that is walked.
 -- Assumes nothing.
-use Rattle.std.specs.Prelude.{◌≡◌, Bool, List, ℕ, ◌+◌, ◌-◌, ◌<◌, ◌≤◌, length, take, drop}
+use Rattle.std.specs.Prelude.{◌≡◌, Bool, List, Some, ℕ, ◌+◌, ◌-◌, ◌<◌, ◌≤◌, length, take, drop}
 use Rattle.std.proofs.Math.Path.{ap, sym}
 use Rattle.std.proofs.Common.{◌∙◌, get_or-take, get_or-drop, take-add, take-take, drop_at, length-take-le}
 use Rattle.std.proofs.Math.Bool.{true, false, not, cond}
@@ -12,8 +12,7 @@ use borrow.Author.Tests.{eq-eqb, ne_eqb, eqb-false, eqb-true}
 use Rattle.base.specs.First.{first, first_from, first-at, first-none, first-same, from_at, from_none, first-le, first_holds, first_before}
 use Rattle.base.specs.Bytes.{Bytes, bytes, bytes_past}
 use Rattle.base.specs.Decide.{never}
-use Rattle.path.specs.Parts.{path_len, other, other_yes, ends, ends_nul, start_of, end_of, part_of, part_in, part_within}
-use Rattle.path.specs.declared.Part.TheVariants.{Name}
+use Rattle.path.specs.Parts.{path_len, other, other_yes, ends, ends_nul, start_of, end_of, part_of, part_in, part_within, part_at}
 
 -- the path alone: the bytes before its first NUL
 abbrev pub cut : List ℕ → List ℕ
@@ -114,12 +113,12 @@ module _ (l : List ℕ) where
       let b = cut_byte (start_of l) start_cut.1 in
       rw (a, b, (end_cut (start_of l) start_cut.1).0)
 
-  pub part_before : (s e : ℕ) → part_of l ≡ Name s e → e ≤ path_len l
+  pub part_before : (s e : ℕ) → part_of l ≡ Some (part_at s e) → e ≤ path_len l
   part_before s e q =
       let w = part_within (cut l) s e (part_cut ∙ q) in
       omega (arith, w.inside, cut-length)
 
-  pub part_bytes : (s e : ℕ) → part_of l ≡ Name s e → part_in (cut l) s e ≡ part_in l s e
+  pub part_bytes : (s e : ℕ) → part_of l ≡ Some (part_at s e) → part_in (cut l) s e ≡ part_in l s e
   part_bytes s e q =
       let w = part_within l s e q in
       let m = part_before s e q in

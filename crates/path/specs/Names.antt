@@ -1,6 +1,6 @@
--- The 14 bytes of a name: a component is cut at 14 bytes, or padded with zeros, and all 14 are compared (document 01, "Path"). Assumes nothing.
+-- The 14 bytes of a name: a component is cut at 14 bytes, or padded with zeros, and all 14 are compared. Assumes nothing.
 use Rattle.std.specs.Prelude.{◌≡◌, refl, Bool, true, false, List, ℕ, ◌<◌, ◌≤◌, eqb}
-use Rattle.std.proofs.Common.{sym, ap, ◌∙◌, arith, eq-eqb, ne_eqb, eqb-true}
+use Rattle.std.proofs.Common.{sym, ap, ◌∙◌, arith, eq-eqb, eqb-true}
 use Rattle.base.specs.First.{all, all_yes, all_no, all_same}
 use Rattle.base.specs.Bytes.{Bytes, bytes, bytes_past}
 use Rattle.base.specs.Decide.{Decides, never}
@@ -23,10 +23,6 @@ pub same_yes : (f h : Bytes) → ((t : ℕ) → t < 14 → f t ≡ h t) → same
 unfolding same_name
 same_yes f h e = all_yes (λ t. eqb (f t) (h t)) 14 (λ t l. eq-eqb (f t) (h t) (e t l))
 
-pub same_no : (f h : Bytes) (t : ℕ) → t < 14 → (f t ≡ h t → ⊥) → same_name f h ≡ false
-unfolding same_name
-same_no f h t l n = all_no (λ t. eqb (f t) (h t)) 14 t l (ne_eqb (f t) (h t) n)
-
 pub same_cong : (f g h : Bytes) → ((t : ℕ) → t < 14 → f t ≡ g t) → same_name f h ≡ same_name g h
 unfolding same_name
 same_cong f g h e = all_same (λ t. eqb (f t) (h t)) (λ t. eqb (g t) (h t)) 14 (λ t l. ap (λ (x : ℕ). eqb x (h t)) (e t l))
@@ -40,9 +36,7 @@ same_decides f h = record { true_is = λ e t l. go e t l (eqb (f t) (h t)) refl;
     go e t l true q = eqb-true (f t) (h t) q
     go e t l false q = never (sym (all_no (λ t. eqb (f t) (h t)) 14 t l q) ∙ e)
 
--- as the code's loop reads a name's bytes
-pub differs : (f : Bytes) (part : List ℕ) (t x y : ℕ) → t < 14 → x ≡ f t → y ≡ bytes part t → (x ≡ y → ⊥) → false ≡ same_name f (name_of part)
-differs f part t x y l a b n = sym (same_no f (name_of part) t l (λ e. n (a ∙ e ∙ padded_byte part t l ∙ sym b)))
-
-pub agrees : (f : Bytes) (part : List ℕ) → ((t : ℕ) → t < 14 → f t ≡ bytes part t) → true ≡ same_name f (name_of part)
-agrees f part h = sym (same_yes f (name_of part) (λ t l. h t l ∙ sym (padded_byte part t l)))
+-- a component's own bytes decide it: past its end it reads as 0, as its name does
+pub same-padded : (f : Bytes) (part : List ℕ) → all (λ t. eqb (f t) (bytes part t)) 14 ≡ same_name f (name_of part)
+unfolding same_name
+same-padded f part = all_same (λ t. eqb (f t) (bytes part t)) (λ t. eqb (f t) (name_of part t)) 14 (λ t l. ap (eqb (f t)) (sym (padded_byte part t l)))

@@ -10,95 +10,58 @@ ghost use Rattle.base.specs.Decide.{Decides};
 ghost use Rattle.path.specs.Parts.{path_len, start_of, end_of, part_of, is_end};
 ghost use Rattle.path.specs.Names.{name_of, same_name};
 
-// The next component of a path: its bytes are those from start up to end.
+// Where a component stands in a path: its bytes are those from start up to end.
 #[derive(Clone, Copy)]
-pub enum Part {
-    Name { start: usize, end: usize },
-    End,
+pub struct Part {
+    pub start: usize,
+    pub end: usize,
 }
 
 // Whether a path has more than 128 bytes. At most 129 of them are looked at.
 pub fn too_long(path: &[u8]) -> bool
     ensures { Decides result (128 < path_len path.now) }
 {
-    let mut i: usize = 0;
-    while i < 129 {
-        if base::get(path, i) == 0 {
-            return false;
-        }
-        i += 1;
-    }
-    true
+    path.len() > 128 && !path[..129].contains(&0)
 }
 
 fn skip_slashes(path: &[u8]) -> usize
     ensures { result ≡ start_of path.now }
 {
-    let mut i: usize = 0;
-    while i < path.len() {
-        let x = path[i];
-        if x != b'/' {
-            return i;
-        }
-        i += 1;
-    }
-    i
+    path.iter().position(|x| *x != b'/').unwrap_or(path.len())
 }
 
 fn component_end(path: &[u8], start: usize) -> usize
     requires { start ≤ length path.now }
     ensures { result ≡ end_of path.now start }
 {
-    let mut i = start;
-    while i < path.len() {
-        let x = path[i];
-        if x == b'/' {
-            return i;
-        }
-        if x == 0 {
-            return i;
-        }
-        i += 1;
-    }
-    i
+    let rest = &path[start..];
+    let n = rest.iter().position(|x| *x == b'/' || *x == 0);
+    start + n.unwrap_or(rest.len())
 }
 
-// The next component of a path, which is handed over from the current place on.
-pub fn component(path: &[u8]) -> Part
+// The next component of a path, which is handed over from the current place on: None where the path ends.
+pub fn component(path: &[u8]) -> Option<Part>
     ensures { result ≡ part_of path.now }
 {
     let start = skip_slashes(path);
     let x = base::get(path, start);
     if x == 0 {
-        return Part::End;
+        return None;
     }
     let end = component_end(path, start);
-    Part::Name {
-        start: start,
-        end: end,
-    }
+    Some(Part { start, end })
 }
 
 // Whether no component is left: what remains is slashes, or nothing.
 pub fn ended(path: &[u8]) -> bool
     ensures { result ≡ is_end (part_of path.now) }
 {
-    match component(path) {
-        Part::Name { start: _, end: _ } => false,
-        Part::End => true,
-    }
+    component(path).is_none()
 }
 
 // Whether the 14 bytes of s from o on are a component's name. The component is a part of the path, longer or shorter than 14 bytes.
 pub fn same_name(s: &[u8], o: usize, part: &[u8]) -> bool
     ensures { result ≡ same_name (λ t. bytes s.now (o + t)) (name_of part.now) }
 {
-    let mut k: usize = 0;
-    while k < 14 {
-        if base::get_past(s, o, k) != base::get(part, k) {
-            return false;
-        }
-        k += 1;
-    }
-    true
+    (0..14).all(|k| base::get_past(s, o, k) == base::get(part, k))
 }

@@ -5,199 +5,116 @@
 // first recovery's: o where every home is as before, n where every home is new, x for anything else.
 #![tactic(auto)]
 
-ghost use Rattle.std.specs.Prelude.{◌≡◌, length, ◌<◌};
-
-use bio::Table;
+use base::Refusal;
 use state::Volume;
-use transactions::Answer;
+use std::io;
+use transactions::Written;
 
-// Standard output's number.
-const STDOUT_FILENO: i32 = 1;
+// The homes that are recorded. The first is in buffer 29, the next in 28, and so on.
+const HOMES: [u32; 4] = [32, 35, 34, 36];
 
-// The lengths are what lending an array as a slice needs.
-fn card() -> [u8; 65536]
-    ensures { 65536 ≡ length result }
-{
-    [0; 65536]
-}
-
-fn memory() -> [u8; 30720]
-    ensures { 30720 ≡ length result }
-{
-    [0; 30720]
-}
-
-// Whether n bytes of a from x on are those of b from y on.
-fn same(a: &[u8], x: usize, b: &[u8], y: usize) -> bool {
-    for i in 0..1024 {
-        if base::get_past(a, x, i) != base::get_past(b, y, i) {
-            return false;
-        }
-    }
-    true
-}
-
-// Buffer j of the cache gets the byte v everywhere.
-fn fill(cache: &mut [u8], j: usize, v: u8)
-    requires { j < 30 }
-{
-    if cache.len() == 30720 {
-        let block = [v; 1024];
-        base::copy_part(cache, j * 1024, &block, 0, 1024);
-    }
-}
-
-// The volume with blocks 32, 35, 34 and 36 recorded in buffers 29, 28, 27 and 26, in one open operation.
+// The volume with the homes recorded, in one open operation.
 fn recorded(v: Volume) -> Volume {
-    let mut blocks = v.table.blocks;
-    let mut counts = v.table.counts;
-    let order = v.table.order;
-    let mut homes = v.homes;
-    homes[0] = 32;
-    homes[1] = 35;
-    homes[2] = 34;
-    homes[3] = 36;
-    blocks[29] = 32;
-    blocks[28] = 35;
-    blocks[27] = 34;
-    blocks[26] = 36;
-    counts[29] = 1;
-    counts[28] = 1;
-    counts[27] = 1;
-    counts[26] = 1;
-    let table = Table {
-        blocks,
-        counts,
-        order,
-    };
     let mut u = v;
-    u.table = table;
-    u.homes = homes;
+    for i in 0..4 {
+        u.homes[i] = HOMES[i];
+        u.table.blocks[29 - i] = HOMES[i];
+        u.table.counts[29 - i] = 1;
+    }
     u.recorded = 4;
     u.ops = 1;
     u
 }
 
+// The new contents, in the buffers of the homes: a byte of its own for each.
+fn contents() -> [u8; 30720] {
+    let mut cache = [0; 30720];
+    for i in 0..4 {
+        let at = (29 - i) * 1024;
+        cache[at..at + 1024].fill(10 + i as u8);
+    }
+    cache
+}
+
 // o: the homes are as before; n: they are as in the buffers; x: neither.
-fn letter(image: &[u8], before: &[u8], cache: &[u8]) -> u8 {
-    if same(image, 32768, before, 32768) {
-        if same(image, 35840, before, 35840) {
-            if same(image, 34816, before, 34816) {
-                if same(image, 36864, before, 36864) {
-                    return b'o';
-                }
-            }
-        }
+fn letter(image: &[u8], before: &[u8], cache: &[u8]) -> char {
+    let mut old = true;
+    let mut new = true;
+    for i in 0..4 {
+        let home = HOMES[i] as usize * 1024;
+        old = old && bio::part(image, home) == bio::part(before, home);
+        new = new && bio::part(image, home) == bio::part(cache, (29 - i) * 1024);
     }
-    if same(image, 32768, cache, 29696) {
-        if same(image, 35840, cache, 28672) {
-            if same(image, 34816, cache, 27648) {
-                if same(image, 36864, cache, 26624) {
-                    return b'n';
-                }
-            }
-        }
-    }
-    b'x'
-}
-
-// The paper's number of an answer, and the writes that it reports.
-fn number(a: Answer) -> u64 {
-    match a {
-        Answer::Done(_) => 0,
-        Answer::Cut(_) => 19,
-        Answer::Refused(r) => base::number_of(r) as u64,
+    if old {
+        'o'
+    } else if new {
+        'n'
+    } else {
+        'x'
     }
 }
 
-fn writes(a: Answer) -> u64 {
-    match a {
-        Answer::Done(w) => w as u64,
-        Answer::Cut(w) => w as u64,
-        Answer::Refused(_) => 0,
+// The number of an answer, and the writes that it reports.
+fn reported(answer: Result<Written, Refusal>) -> (u32, usize) {
+    match answer {
+        Ok(Written::All(writes)) => (0, writes),
+        Ok(Written::Cut(writes)) => (19, writes),
+        Err(why) => (why.number(), 0),
     }
-}
-
-// The new contents in the buffers.
-fn contents(cache: &mut [u8]) {
-    fill(cache, 29, 10);
-    fill(cache, 28, 11);
-    fill(cache, 27, 12);
-    fill(cache, 26, 13);
 }
 
 // On a formatted card, an `end` of which k writes reach it.
-fn save(image: &mut [u8], cache: &[u8], k: usize) -> Answer {
-    format::format(image, 64, 16, 30);
-    let m = transactions::mount(image, cache, 0);
-    let v = recorded(m.volume);
-    let e = transactions::end(v, image, cache, k);
-    let a = e.answer;
-    a
+fn save(image: &mut [u8], cache: &[u8], k: usize) -> Result<Written, Refusal> {
+    format::format(image, 64, 16, 30)?;
+    let mounted = transactions::mount(image, cache, 0);
+    transactions::end(recorded(mounted.volume), image, cache, k).answer
 }
 
 // A recovery of which i writes reach the card, one of which j do, and one that finishes.
-fn put_in_again(image: &mut [u8], cache: &[u8], i: usize, j: usize) -> Answer {
+fn put_in_again(image: &mut [u8], cache: &[u8], i: usize, j: usize) -> Result<Written, Refusal> {
     transactions::mount(image, cache, i);
     transactions::mount(image, cache, j);
-    let m = transactions::mount(image, cache, 30);
-    let a = m.answer;
-    a
+    transactions::mount(image, cache, 30).answer
 }
 
-fn pull(image: &mut [u8], before: &mut [u8], cache: &mut [u8], k: usize, i: usize, j: usize) -> u8 {
-    contents(cache);
-    format::format(before, 64, 16, 30);
-    save(image, cache, k);
-    if number(put_in_again(image, cache, i, j)) != 0 {
-        return b'x';
+fn ended(k: usize) -> Result<Written, Refusal> {
+    let mut image = [0; 65536];
+    save(&mut image, &contents(), k)
+}
+
+fn pulled(k: usize, i: usize, j: usize) -> Result<char, Refusal> {
+    let mut image = [0; 65536];
+    let mut before = [0; 65536];
+    let cache = contents();
+    format::format(&mut before, 64, 16, 30)?;
+    save(&mut image, &cache, k)?;
+    match put_in_again(&mut image, &cache, i, j)? {
+        Written::All(_) => Ok(letter(&image, &before, &cache)),
+        Written::Cut(_) => Ok('x'),
     }
-    letter(image, before, cache)
-}
-
-fn ended(k: usize) -> Answer {
-    let mut image = card();
-    let mut cache = memory();
-    contents(&mut cache);
-    save(&mut image, &cache, k)
-}
-
-fn pulled(k: usize, i: usize, j: usize) -> u8 {
-    let mut image = card();
-    let mut before = card();
-    let mut cache = memory();
-    pull(&mut image, &mut before, &mut cache, k, i, j)
-}
-
-fn print(c: u8) {
-    let one = [c];
-    io::write_all(STDOUT_FILENO, &one);
 }
 
 // The second recovery cut after 0 to 5 writes.
-fn group(k: usize, i: usize) {
-    print(b' ');
+fn group(rt: &impl Print, k: usize, i: usize) -> io::Result<()> {
+    print!(rt; " ")?;
     for j in 0..6 {
-        print(pulled(k, i, j));
+        print!(rt; "{}", pulled(k, i, j).unwrap_or('x'))?;
     }
+    Ok(())
 }
 
-fn line(k: usize) {
-    let a = ended(k);
-    io::print_decimal(STDOUT_FILENO, k as u64);
-    io::write_all(STDOUT_FILENO, b": ");
-    io::print_decimal(STDOUT_FILENO, number(a));
-    print(b' ');
-    io::print_decimal(STDOUT_FILENO, writes(a));
-    print(b':');
+fn line(rt: &impl Print, k: usize) -> io::Result<()> {
+    let (number, writes) = reported(ended(k));
+    print!(rt; "{k}: {number} {writes}:")?;
     for i in 0..6 {
-        group(k, i);
+        group(rt, k, i)?;
     }
-    print(b'\n');
+    println!(rt)
 }
 
-fn main() {
+fn main(rt: HostRuntime) -> io::Result<()> {
     for k in 0..12 {
-        line(k);
+        line(&rt, k)?;
     }
+    Ok(())
 }

@@ -1,2 +1,3 @@
 -- What the checker's readers say.
 pub mod Read
+pub mod Every

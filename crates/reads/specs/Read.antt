@@ -1,16 +1,16 @@
 -- The parts of a disk as the code reads them. Assumes nothing.
-use Rattle.std.specs.Prelude.{◌≡◌, ◌⊎◌, cond, ◌&&◌, List, ltb}
+use Rattle.std.specs.Prelude.{◌≡◌, ◌⊎◌, cond, Option, MatchOption}
 use Rattle.std.proofs.Math.Path.{refl, ap}
 use Rattle.std.proofs.Common.{sym, ◌∙◌, inl, inr}
 use Prim.Native.Nat.{ℕ, zero, suc, ◌+◌, ◌-◌, ◌*◌, ◌/◌, ◌%◌, ◌≤◌, ◌<◌}
 use native.Mathlib.Omega.{arith}
 use native.Mathlib.Decide.{dec_lt}
 use borrow.Author.Tests.{lt-ltb, le-ltb, eq-eqb, ne_eqb}
-use Rattle.std.specs.Borrow.{Bor}
 use Rattle.base.specs.Bytes.{Bytes, bytes}
 use Rattle.base.specs.Number.{le, le_cong, get, get_two}
 use Rattle.base.specs.Bit.{bit_at}
 use Rattle.superblock.specs.declared.Super.{Super}
+use Rattle.reads.specs.declared.Card.{Card}
 use Rattle.superblock.specs.Geometry.{bits, data_start, inode_addr, bit_addr}
 use Rattle.superblock.specs.Node.{Node, node_in, no_node}
 use Rattle.superblock.specs.Disk.{Disk, disk, ino_of, bit_of, mem_of}
@@ -18,9 +18,9 @@ use Rattle.rules.specs.Fit.{Fit, entry, slot, held, slot_of, byte_of}
 use Rattle.rules.specs.Tree.{is_entry, num_of, name_of}
 use Rattle.rules.specs.Rules.{S3}
 
--- what a lent image shows by the numbers g
-abbrev pub shown : Super → Bor (List ℕ) → Disk
-shown g image = disk g (bytes image.now)
+-- what a card shows
+abbrev pub shown : Card → Disk
+shown c = disk c.sb (bytes c.image.now)
 
 -- r is x, and below n
 pub record Is (r x n : ℕ) : Type 0 where
@@ -30,71 +30,64 @@ pub record Is (r x n : ℕ) : Type 0 where
 pub is_to : {r x n : ℕ} (y : ℕ) → Is r x n → x ≡ y → Is r y n
 is_to y h e = record { eq = h.eq ∙ e; lt = h.lt }
 
--- the n bytes at o of inode i
-unfoldable pub field : Super → Bytes → ℕ → ℕ → ℕ → ℕ
-field g d i o n = cond (ltb 0 i && ltb i g.ninodes) (get d (inode_addr g i + o) n) 0
+-- there is an inode i, at address a
+pub record There (g : Super) (i a : ℕ) : Type 0 where
+  pub eq : a ≡ inode_addr g i
+  pub low : 1 ≤ i
+  pub high : i < g.ninodes
+
+-- its address, or none
+abbrev pub InodeAt : Super → ℕ → Option ℕ → Type 0
+InodeAt g i r = MatchOption r (1 ≤ i → g.ninodes ≤ i) (There g i)
 
 module _ (g : Super) (d : Bytes) (i : ℕ) where
-  pub field-none : (o n m : ℕ) → i < 1 → 0 < m → Is 0 (field g d i o n) m
-  unfolding field
-  field-none o n m h l = record { eq = rw (le-ltb 0 i (omega arith)); lt = l }
-
-  pub field_past : (o n m : ℕ) → g.ninodes ≤ i → 0 < m → 1 ≤ i → Is 0 (field g d i o n) m
-  unfolding field
-  field_past o n m h l k = record { eq = rw (lt-ltb 0 i k, le-ltb i g.ninodes h); lt = l }
-
-  pub field-here : (o n m r : ℕ) → 1 ≤ i → i < g.ninodes → Is r (get d (inode_addr g i + o) n) m → Is r (field g d i o n) m
-  unfolding field
-  field-here o n m r l k h = rw (lt-ltb 0 i l, lt-ltb i g.ninodes k) h
-
-  get_at : (o n : ℕ) → get d (inode_addr g i + o) n ≡ get (λ k. d (inode_addr g i + k)) o n
-  get_at o n = le_cong n (λ k. d (inode_addr g i + o + k)) (λ k. d (inode_addr g i + (o + k))) (λ k l. ap d (omega arith))
-
-  -- by cases: there is an inode i, or not
-  cases : (o n x : ℕ) → (0 < i → i < g.ninodes → get (λ k. d (inode_addr g i + k)) o n ≡ x) → (i < 1 → 0 ≡ x) → (1 ≤ i → g.ninodes ≤ i → 0 ≡ x) → field g d i o n ≡ x
-  unfolding field
-  cases o n x h k l = elim (dec_lt 0 i) [
-    | yes p ↦ elim (dec_lt i g.ninodes) [
-      | yes q ↦ rw (lt-ltb 0 i p, lt-ltb i g.ninodes q) (get_at o n ∙ h p q)
-      | no q ↦ rw (lt-ltb 0 i p, le-ltb i g.ninodes (omega arith)) (l (omega arith) (omega arith))
-    ]
-    | no p ↦ rw (le-ltb 0 i (omega arith)) (k (omega arith))
+  -- there is no inode i
+  pub ino_none : (1 ≤ i → g.ninodes ≤ i) → ino_of g d i ≡ no_node
+  unfolding ino_of
+  ino_none h = elim (dec_lt 0 i) [
+    | yes p ↦ rw (lt-ltb 0 i p, le-ltb i g.ninodes (h p))
+    | no p ↦ rw (le-ltb 0 i (omega arith))
   ]
 
-  ino_here : 0 < i → i < g.ninodes → ino_of g d i ≡ node_in (λ k. d (inode_addr g i + k))
-  unfolding ino_of
-  ino_here p q = rw (lt-ltb 0 i p, lt-ltb i g.ninodes q)
+  pub kind_none : (1 ≤ i → g.ninodes ≤ i) → (ino_of g d i).kind ≡ 0
+  unfolding no_node
+  kind_none h = ap (λ (r : Node). r.kind) (ino_none h)
 
-  pub ino_low : i < 1 → ino_of g d i ≡ no_node
-  unfolding ino_of
-  ino_low p = rw (le-ltb 0 i (omega arith))
+  -- a used inode is there
+  pub kind_in : 1 ≤ (ino_of g d i).kind → (0 < i) × (i < g.ninodes)
+  kind_in h = elim (dec_lt 0 i) [
+    | yes p ↦ elim (dec_lt i g.ninodes) [ yes q ↦ (p, q) | no q ↦ absurd (omega (arith, kind_none (λ _. omega arith))) ]
+    | no p ↦ absurd (omega (arith, kind_none (λ l. absurd (omega arith))))
+  ]
 
-  pub ino_high : 1 ≤ i → g.ninodes ≤ i → ino_of g d i ≡ no_node
-  unfolding ino_of
-  ino_high p q = rw (lt-ltb 0 i (omega arith), le-ltb i g.ninodes q)
+  -- the n bytes at o of inode i are its field f
+  module _ (f : Node → ℕ) (o n : ℕ) (here : (b : Bytes) → get b o n ≡ f (node_in b)) where
+    read_at : (a : ℕ) → There g i a → get d (a + o) n ≡ f (ino_of g d i)
+    unfolding ino_of
+    read_at a h =
+        rw (h.eq, lt-ltb 0 i h.low, lt-ltb i g.ninodes h.high)
+        (le_cong n (λ k. d (inode_addr g i + o + k)) (λ k. d (inode_addr g i + (o + k))) (λ k l. ap d (omega arith)) ∙ here (λ k. d (inode_addr g i + k)))
 
-  module _ (f : Node → ℕ) (o n : ℕ) (here : (b : Bytes) → get b o n ≡ f (node_in b)) (none : 0 ≡ f no_node) where
-    field_is : field g d i o n ≡ f (ino_of g d i)
-    field_is = cases o n (f (ino_of g d i))
-        (λ p q. here (λ k. d (inode_addr g i + k)) ∙ ap f (sym (ino_here p q)))
-        (λ p. none ∙ ap f (sym (ino_low p)))
-        (λ p q. none ∙ ap f (sym (ino_high p q)))
+  module _ (a r : ℕ) (h : There g i a) where
+    pub read_kind : r ≡ get d a 2 → r < 65536 → Is r (ino_of g d i).kind 65536
+    unfolding node_in
+    read_kind e l = record { eq = e ∙ ap (λ (x : ℕ). get d x 2) (omega arith) ∙ read_at (λ r. r.kind) 0 2 (λ b. refl) a h; lt = l }
 
-  pub field_kind : field g d i 0 2 ≡ (ino_of g d i).kind
-  unfolding node_in no_node
-  field_kind = field_is (λ r. r.kind) 0 2 (λ b. refl) refl
+    pub read_nlink : r ≡ get d (a + 6) 2 → r < 65536 → Is r (ino_of g d i).nlink 65536
+    unfolding node_in
+    read_nlink e l = record { eq = e ∙ read_at (λ r. r.nlink) 6 2 (λ b. refl) a h; lt = l }
 
-  pub field_nlink : field g d i 6 2 ≡ (ino_of g d i).nlink
-  unfolding node_in no_node
-  field_nlink = field_is (λ r. r.nlink) 6 2 (λ b. refl) refl
+    pub read_size : r ≡ get d (a + 8) 4 → r < 4294967296 → Is r (ino_of g d i).size 4294967296
+    unfolding node_in
+    read_size e l = record { eq = e ∙ read_at (λ r. r.size) 8 4 (λ b. refl) a h; lt = l }
 
-  pub field_size : field g d i 8 4 ≡ (ino_of g d i).size
-  unfolding node_in no_node
-  field_size = field_is (λ r. r.size) 8 4 (λ b. refl) refl
+    pub read_addr : (p : ℕ) → p < 13 → r ≡ get d (a + 12 + 4 * p) 4 → r < 4294967296 → Is r ((ino_of g d i).addr p) 4294967296
+    unfolding node_in
+    read_addr p k e l = record { eq = e ∙ ap (λ (x : ℕ). get d x 4) (omega arith) ∙ read_at (λ r. r.addr p) (12 + 4 * p) 4 (λ b. rw (lt-ltb p 13 k)) a h; lt = l }
 
-  pub field_addr : (p : ℕ) → p < 13 → field g d i (12 + 4 * p) 4 ≡ (ino_of g d i).addr p
-  unfolding node_in no_node
-  field_addr p l = field_is (λ r. r.addr p) (12 + 4 * p) 4 (λ b. rw (lt-ltb p 13 l)) refl
+  -- a field of no inode is 0
+  pub read_none : (f : Node → ℕ) (m : ℕ) → f no_node ≡ 0 → 0 < m → (1 ≤ i → g.ninodes ≤ i) → Is 0 (f (ino_of g d i)) m
+  read_none f m z l h = record { eq = sym (ap f (ino_none h) ∙ z); lt = l }
 
 -- the data area
 

@@ -1,17 +1,17 @@
 -- A list of blocks recorded, ascending: what a caller learns. The state stays whole, what is seen stays, the homes grow by exactly the new ones in
 -- order, and nothing else of the state changes but the buffers. Assumes nothing.
-use Rattle.std.specs.Prelude.{◌≡◌, refl, Bool, true, false, cond, List, ℕ, zero, suc, ◌+◌, ◌-◌, ◌*◌, ◌≤◌, ◌<◌, min, get_or, length}
+use Rattle.std.specs.Prelude.{◌≡◌, refl, Bool, true, false, cond, List, ℕ, zero, suc, ◌+◌, ◌≤◌, ◌<◌, min, get_or}
 use Rattle.std.proofs.Common.{sym, ap, ◌∙◌, arith, add-one}
 use Rattle.std.proofs.Math.Decide.{ℕ_discrete}
-use Rattle.base.specs.Bytes.{Bytes, bytes, put, block}
+use Rattle.base.specs.Bytes.{Bytes, bytes}
 use Rattle.bio.specs.Among.{among}
 use Rattle.bio.specs.Seen.{seen, buffer_of}
-use Rattle.cache.specs.Tables.{chosen}
 use Rattle.state.specs.declared.Volume.{Volume}
 use Rattle.state.specs.Whole.{Whole}
-use Rattle.state.specs.Given.{recorded_below, whole_numbers, whole_length}
-use Rattle.recording.specs.Record.{is_recorded, with_block, with_bytes, touched, touched_bytes, record_all, record_bytes, news_of, news, Room, HasRoom, Touches}
-use Rattle.recording.specs.One.{Recordable, Chosen, chose, whole_one, seen_one, home_new, home_old, among_new, among_old}
+use Rattle.cache.specs.Tables.{chosen}
+use Rattle.state.specs.Given.{recorded_below}
+use Rattle.recording.specs.Record.{is_recorded, with_block, with_bytes, touched, touched_bytes, record_all, record_bytes, news_of, news, Touches}
+use Rattle.recording.specs.One.{Recordable, chose, whole_one, seen_one, home_new, home_old, among_new, among_old}
 
 -- block b may be recorded, if it is not
 pub record Touch (v : Volume) (b : ℕ) (image : List ℕ) : Type 0 where

@@ -1,13 +1,13 @@
--- The homes grow by exactly the new ones, in order; and marked case 7. From document 01, "Recording": one call adds its new blocks in ascending
--- number, and at most min(30, nlog) - 2 distinct blocks are recorded. Assumes nothing.
-use Rattle.std.specs.Prelude.{◌≡◌, refl, Bool, true, false, cond, List, [], ◌∷◌, ◌++◌, ℕ, zero, suc, ◌+◌, ◌≤◌, ◌<◌, min, get_or, length, take}
+-- The homes grow by exactly the new ones, in order; and the marked case 7. One call adds its new blocks in ascending number, and at most
+-- min(30, nlog) - 2 distinct blocks are recorded. Assumes nothing.
+use Rattle.std.specs.Prelude.{◌≡◌, refl, Bool, true, false, cond, List, [], ◌∷◌, ◌++◌, ℕ, zero, suc, ◌≤◌, ◌<◌, get_or, length, take}
 use Rattle.std.proofs.Common.{sym, ap, ◌∙◌, append-nil, append_assoc, arith, add-one, take-suc-set}
 use Rattle.base.specs.Bytes.{bytes}
 use Rattle.bio.specs.Among.{among}
 use Rattle.state.specs.declared.Volume.{Volume}
 use Rattle.state.specs.Given.{whole_few}
-use Rattle.recording.specs.Record.{is_recorded, with_block, touched, record_all, news_of, Room, Touches}
-use Rattle.recording.specs.All.{All, touched_old, touched_new, none_recorded, suc_recorded, recorded_all, news-none, news_more}
+use Rattle.recording.specs.Record.{is_recorded, touched, record_all, news_of, Room, Touches}
+use Rattle.recording.specs.All.{touched_old, touched_new, none_recorded, suc_recorded, recorded_all, news-none, news_more}
 
 -- the recorded homes
 abbrev pub homes_of : Volume → List ℕ

@@ -1,22 +1,21 @@
 -- One block recorded: the state stays whole, and what is seen does not change. Assumes nothing.
-use Rattle.std.specs.Prelude.{◌≡◌, refl, ◌⊎◌, Bool, true, false, cond, List, ℕ, zero, suc, ◌+◌, ◌-◌, ◌*◌, ◌≤◌, ◌<◌, min, get_or, length, set, eqb}
-use Rattle.std.proofs.Common.{sym, ap, ◌∙◌, inl, inr, ⊎_elim, arith, length-set, get_or-set_same, get_or-set_other, eqb-true, ltb-true}
+use Rattle.std.specs.Prelude.{◌≡◌, refl, Bool, true, false, List, ℕ, ◌+◌, ◌≤◌, ◌<◌, min, get_or, eqb}
+use Rattle.std.proofs.Common.{sym, ap, ◌∙◌, arith, length-set, get_or-set_same, get_or-set_other, eqb-true, ltb-true}
 use Rattle.std.proofs.Math.Decide.{ℕ_discrete, dec_lt}
 use Rattle.std.proofs.lemmas.Bool.{eqb-false}
 use Rattle.base.specs.First.{first, first_holds, first_before}
-use Rattle.base.specs.Bytes.{Bytes, bytes, put, block}
-use Rattle.base.specs.Update.{upd, upd_set}
+use Rattle.base.specs.Bytes.{Bytes}
+use Rattle.base.specs.Update.{upd_set}
 use Rattle.base.specs.Pigeon.{pigeon}
-use Rattle.bio.specs.Among.{among, among_where, among_yes, among_no, among_none, Distinct}
-use Rattle.bio.specs.Seen.{seen, buffer_of}
+use Rattle.bio.specs.Among.{among, among_where, among_yes, among_no, among_none}
+use Rattle.bio.specs.Seen.{seen}
 use Rattle.bio.specs.Order.{least_recent, least_free, least_some}
-use Rattle.bio.specs.Take.{Taken, taken_here, seen-taken}
+use Rattle.bio.specs.Take.{Taken, seen-taken}
 use Rattle.bio.specs.declared.Table.{Table}
-use Rattle.cache.specs.Tables.{chosen, chosen_own, chosen_new, buffer_with, gotten, holding}
+use Rattle.cache.specs.Tables.{chosen, chosen_own, chosen_new, buffer_with}
 use Rattle.state.specs.declared.Volume.{Volume}
-use Rattle.state.specs.Whole.{Whole, Counts, Buffered, GoodHomes, GoodBuffers, Pinned, Lengths}
-use Rattle.state.specs.Marks.{count_is}
-use Rattle.state.specs.Given.{unrecorded_none, recorded_high, whole_few}
+use Rattle.state.specs.Whole.{Whole, Buffered, GoodHomes, GoodBuffers}
+use Rattle.state.specs.Given.{unrecorded_none}
 use Rattle.recording.specs.Record.{is_recorded, with_block, with_bytes}
 
 -- what is wanted of the buffer that is taken for block b

@@ -1,9 +1,8 @@
--- Recording, as definitions: the state and the cache that are left. From document 01, "Recording" and "Cache": a block that is recorded takes no
--- room; any other takes a buffer as a get does, is read from the image into it, has the count 1, and is the last home. Assumes nothing.
-use Rattle.std.specs.Prelude.{◌≡◌, Bool, true, false, cond, List, ℕ, zero, suc, ◌+◌, ◌*◌, ◌≤◌, ◌<◌, min, get_or, length, set}
-use Rattle.base.specs.Bytes.{Bytes, bytes, put, block}
+-- Recording, as definitions: the state and the cache that are left. A block that is recorded takes no room; any other takes a buffer as a get
+-- does, is read from the image into it, has the count 1, and is the last home. Assumes nothing.
+use Rattle.std.specs.Prelude.{◌≡◌, Bool, cond, List, ℕ, zero, suc, ◌+◌, ◌*◌, ◌≤◌, ◌<◌, min, get_or, set}
+use Rattle.base.specs.Bytes.{Bytes, put, block}
 use Rattle.bio.specs.Among.{among}
-use Rattle.bio.specs.declared.Table.{Table}
 use Rattle.cache.specs.Tables.{chosen, gotten}
 use Rattle.state.specs.declared.Volume.{Volume}
 use Rattle.state.specs.Whole.{Whole}
@@ -52,7 +51,7 @@ news_of homes r l (suc n) = news_of homes r l n + cond (among homes r (get_or l 
 abbrev pub news : Volume → List ℕ → ℕ → ℕ
 news v l n = news_of v.homes v.recorded l n
 
--- row 14 is not given: there is room for those that are not recorded
+-- there is room in the log for those that are not recorded
 pub record Room (homes : List ℕ) (r nlog : ℕ) (l : List ℕ) (n : ℕ) : Type 0 where
   pub fits : r + news_of homes r l n + 2 ≤ min 30 nlog
 

@@ -13,6 +13,7 @@ pub record Holds (blocks counts : List ℕ) (cache : List ℕ) (b off n : ℕ) :
 pub record Changed (blocks counts : List ℕ) (cache cache' : Bytes) (b off n : ℕ) (f : Bytes) : Type 0 where
   pub seen_is : (image : Bytes) → seen blocks counts cache' image ≡ put (seen blocks counts cache image) (b * 1024 + off) n f
 
-pub changed : (blocks counts : List ℕ) (b off n j : ℕ) (f cache cache' : Bytes) → j ≡ buffer_of blocks counts b → buffer_of blocks counts b < 30 → off + n ≤ 1024
-    → cache' ≡ put cache (j * 1024 + off) n f → Changed blocks counts cache cache' b off n f
-changed blocks counts b off n j f cache cache' e h l c = record { seen_is = λ image. rw (c, e) (seen-put blocks counts cache image b off n f h l) }
+-- a write there into the cache is that change
+pub changed : (blocks counts : List ℕ) (b off n at : ℕ) (f cache cache' : Bytes) → at ≡ buffer_of blocks counts b * 1024 + off → buffer_of blocks counts b < 30 → off + n ≤ 1024
+    → cache' ≡ put cache at n f → Changed blocks counts cache cache' b off n f
+changed blocks counts b off n at f cache cache' e h l c = record { seen_is = λ image. rw (c, e) (seen-put blocks counts cache image b off n f h l) }

@@ -1,5 +1,5 @@
--- The seven rules of a sound image, from document 01, "Seven rules of a sound image". "Reading N" is the note of that number in docs/DECISIONS.md on
--- where the paper leaves room. S3 to S7 mean something where S1 holds: they read the card by its superblock's numbers. Assumes nothing.
+-- The seven rules of a sound image. "Reading N" is the note of that number in docs/DECISIONS.md. S3 to S7 mean something where
+-- S1 holds: they read the card by its superblock's numbers. Assumes nothing.
 use Rattle.std.specs.Prelude.{◌≡◌, ◌≢◌, ◌⊎◌, List, ℕ, ◌≤◌, ◌<◌}
 use Rattle.base.specs.Bytes.{Bytes}
 use Rattle.base.specs.Number.{get}

@@ -1,4 +1,4 @@
--- Which slot an inode is opened in, and when a handle is good (document 01, "Open" and "close"). Assumes nothing.
+-- Which slot an inode is opened in, and when a handle is good. Assumes nothing.
 use Rattle.std.specs.Prelude.{◌≡◌, ◌≢◌, cond, not, List, ℕ, ◌≤◌, ◌<◌, get_or, eqb, ltb}
 use Rattle.std.proofs.Common.{sym, ap, ◌∙◌, arith, lt-ltb, le-ltb, eqb-true}
 use Rattle.std.proofs.lemmas.Bool.{eqb-false}

@@ -1,26 +1,26 @@
 -- What a whole state gives to those who use it: where each home is, what is not recorded, how many there are. Assumes nothing.
-use Rattle.std.specs.Prelude.{◌≡◌, refl, Bool, true, false, cond, List, ℕ, suc, ◌+◌, ◌-◌, ◌*◌, ◌≤◌, ◌<◌, min, get_or, length, ltb}
+use Rattle.std.specs.Prelude.{◌≡◌, refl, Bool, true, false, cond, List, ℕ, ◌*◌, ◌≤◌, ◌<◌, get_or, length, ltb}
 use Rattle.std.proofs.Common.{sym, ap, ◌∙◌, arith}
 use Rattle.std.proofs.Math.Decide.{ℕ_discrete, dec_lt}
 use Rattle.std.proofs.Math.Dec.{eqb}
 use borrow.Author.Tests.{eqb-true, ltb-true, lt-ltb, le-ltb}
 use Rattle.base.specs.First.{first, first_holds}
 use Rattle.base.specs.Pigeon.{pigeon}
-use Rattle.bio.specs.Among.{among, among_where, among_yes, among_none, Distinct}
+use Rattle.bio.specs.Among.{among, among_where, among_yes}
 use Rattle.bio.specs.Order.{Named}
-use Rattle.bio.specs.Seen.{buffer_of, buffer_holds, buffer_is, buffer_none, held_below}
+use Rattle.bio.specs.Seen.{buffer_of, buffer_holds, buffer_none, held_below}
 use Rattle.superblock.specs.Geometry.{GoodNumbers}
-use Rattle.state.specs.Whole.{Volume, Card, Counts, GoodHomes, GoodBuffers, Buffered, Whole, Pinned}
+use Rattle.state.specs.Whole.{Volume, Buffered, Whole, Pinned}
 use Rattle.state.specs.Marks.{count_is}
 use Rattle.state.specs.Card.{card-numbers, card-length}
 
 module _ (blocks counts homes : List ℕ) (n low size : ℕ) (g : Buffered blocks counts homes n low size) where
   -- a recorded block: it is on the card, in one buffer, with count 1
-  pub recorded_high : (b : ℕ) → among homes n b ≡ true → b < size
-  recorded_high b e = let w = among_where homes n b e in omega (arith, g.list.high w.0 w.1, w.2)
-
   pub recorded_low : (b : ℕ) → among homes n b ≡ true → low ≤ b
   recorded_low b e = let w = among_where homes n b e in omega (arith, g.list.low w.0 w.1, w.2)
+
+  pub recorded_high : (b : ℕ) → among homes n b ≡ true → b < size
+  recorded_high b e = let w = among_where homes n b e in omega (arith, g.list.high w.0 w.1, w.2)
 
   pub recorded_pinned : (b : ℕ) → among homes n b ≡ true → Pinned blocks counts b
   recorded_pinned b e = let w = among_where homes n b e in rw w.2 at (g.buffers.held w.0 w.1)

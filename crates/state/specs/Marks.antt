@@ -1,16 +1,17 @@
 -- How three passes decide that the homes and the buffers are good: one over the buffers leaves, for each remainder of a block's number by 256, the
 -- last buffer whose block has it, and searches only where a remainder comes again; one over the homes finds each in its buffer, and marks that
 -- buffer; one compares the counts with the marks. Assumes nothing.
-use Rattle.std.specs.Prelude.{◌≡◌, refl, ◌⊎◌, Bool, true, false, cond, List, ℕ, ◌+◌, ◌%◌, ◌≤◌, ◌<◌, get_or, length, set, replicate, eqb}
-use Rattle.std.proofs.Common.{sym, ap, ◌∙◌, inl, inr, ⊎_elim, arith, get_or-set_same, get_or-set_other, lt-ltb, le-ltb, eqb-true}
+use Rattle.std.specs.Prelude.{◌≡◌, refl, Bool, true, false, cond, List, ℕ, ◌+◌, ◌%◌, ◌≤◌, ◌<◌, get_or, length, set, replicate, eqb, nat_eq}
+use Rattle.std.proofs.Common.{sym, ap, ◌∙◌, arith, get_or-set_same, get_or-set_other, lt-ltb, le-ltb, eqb-true}
 use Rattle.std.proofs.Math.Decide.{ℕ_discrete, dec_lt}
-use Rattle.std.proofs.lemmas.List.{length-replicate, get_or-replicate}
+use Rattle.std.proofs.lemmas.List.{ext_get_or, length-replicate, get_or-replicate}
 use Rattle.std.proofs.Math.ListN.{get_or-eq_default}
+use Rattle.std.specs.Cmp.Lexicographic.{pointwise, same_text, other_text}
 use Rattle.base.specs.First.{first, first_holds}
 use Rattle.base.specs.Bytes.{Bytes, bytes}
 use Rattle.base.specs.Decide.{Decides}
 use Rattle.bio.specs.Among.{among, among_where, among_yes, among_no, among_none, Distinct, distinct_none, distinct_high, distinct_new, distinct_not}
-use Rattle.state.specs.Whole.{GoodHomes, GoodBuffers, Buffered, Pinned}
+use Rattle.state.specs.Whole.{GoodHomes, Buffered, Pinned}
 
 -- ---- the first pass
 
@@ -176,6 +177,12 @@ not_held blocks counts homes i low size k n h l q f = let p = f.pinned i q in h.
 pub record Agree (m : Bytes) (counts : List ℕ) : Type 0 where
   pub each : (j : ℕ) → j < 30 → get_or counts j 0 ≡ m j
 
+pub agreed : (marks counts : List ℕ) (r : Bool) → r ≡ pointwise nat_eq marks counts → length marks ≡ 30 → length counts ≡ 30 → Decides r (Agree (bytes marks) counts)
+agreed marks counts r e l m = record {
+  true_is = λ t. record { each = λ j h. ap (λ (xs : List ℕ). get_or xs j 0) (sym (same_text marks counts (sym t ∙ e))) };
+  false_is = λ f a. other_text marks counts (sym f ∙ e) (ext_get_or 0 marks counts (l ∙ sym m) (λ j h. sym (a.each j (omega arith))));
+}
+
 module _ (blocks counts homes : List ℕ) (n low size : ℕ) where
   -- a home's buffer has count 1, any other 0
   pub count_is : Buffered blocks counts homes n low size → (j : ℕ) → j < 30 → get_or counts j 0 ≡ cond (among homes n (get_or blocks j 0)) 1 0
@@ -192,9 +199,6 @@ module _ (blocks counts homes : List ℕ) (n low size : ℕ) where
       go : (t : Bool) → among homes n (get_or blocks j 0) ≡ t → get_or counts j 0 ≡ cond t 1 0
       go true e = only e
       go false e = g.buffers.others j l e
-
-  pub is_found : Buffered blocks counts homes n low size → Found blocks counts homes n low size
-  is_found g = record { list = g.list; pinned = g.buffers.held }
 
   module _ (m : Bytes) (k : Marked m blocks homes n) where
     pub is_agreed : Buffered blocks counts homes n low size → Agree m counts

@@ -1,16 +1,16 @@
 -- Handle slots: the slot of an inode, by a search, and how the loop over the slots shows that they are good. Assumes nothing.
 use Rattle.std.proofs.Math.Path.{◌≡◌, refl, sym}
 use Rattle.std.proofs.Common.{ap, ◌∙◌, inl, inr, ⊎_elim}
-use Rattle.std.specs.Prelude.{◌⊎◌, Bool, List, ℕ, ◌+◌, ◌≤◌, ◌<◌}
+use Rattle.std.specs.Prelude.{Bool, List, ℕ, ◌+◌, ◌≤◌, ◌<◌}
 use Rattle.std.proofs.Math.Bool.{true, false, cond}
-use Rattle.std.specs.Int.Bits.{bit_or, bit_and, or_add_and}
+use Rattle.std.specs.Int.Bits.{bit_or, or_add_and}
 use Rattle.std.proofs.lemmas.Nat.{and_le_l, and_le_r}
 use native.Mathlib.Omega.{arith}
 use Rattle.std.proofs.Math.Decide.{ℕ_discrete}
 use Rattle.std.proofs.Math.ListN.{get_or}
 use Rattle.std.proofs.Math.Dec.{eqb}
 use borrow.Author.Tests.{eq-eqb, ne_eqb, eqb-true, eqb-false}
-use Rattle.base.specs.First.{first, first-at, first-none, first_before, first_holds, first-le}
+use Rattle.base.specs.First.{first, first-none, first_before}
 use Rattle.base.specs.Decide.{Decides, alike, lt_or_le}
 use Rattle.state.specs.Whole.{GoodSlots}
 

@@ -1,4 +1,4 @@
--- A state is whole: document 01's "A state is whole when ..", sentence by sentence. Contents are not compared. Assumes nothing.
+-- A state is whole, rule by rule: what every call asks of the state that it is given. Contents are not compared. Assumes nothing.
 use Rattle.std.specs.Prelude.{◌≡◌, false, List, ℕ, ◌+◌, ◌≤◌, ◌<◌, min, get_or, length}
 use Rattle.base.specs.Bytes.{bytes}
 use Rattle.bio.specs.Among.{among, Distinct}

@@ -1,5 +1,5 @@
 -- Where things are on a card: the superblock's numbers, when they are good, and the addresses that follow from them.
--- From document 01, "On the card"; block 0 is boot, block 1 the superblock, then log, inodes, bitmap, data. Assumes nothing.
+-- Block 0 is boot, block 1 the superblock, then log, inodes, bitmap, data. Assumes nothing.
 use Rattle.std.specs.Prelude.{◌≡◌, List, ℕ, ◌+◌, ◌*◌, ◌/◌, ◌%◌, ◌≤◌, length}
 pub use Rattle.superblock.specs.declared.Super.{Super}
 use Rattle.base.specs.Bytes.{Bytes, bytes}

@@ -7,3 +7,4 @@ pub mod Blank
 pub mod Disk
 pub mod Stores
 pub mod FieldStores
+pub mod Kind

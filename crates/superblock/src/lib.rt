@@ -13,6 +13,9 @@ ghost use Rattle.superblock.specs.Node.{node, encoded, addr_bytes, inode_at};
 ghost use Rattle.superblock.specs.Record.{sized, linked, addressed};
 ghost use Rattle.superblock.specs.Entry.{entry_at, entry_bytes, padded as padded_name};
 ghost use Rattle.superblock.specs.Blank.{Blank};
+ghost use Rattle.superblock.specs.Kind.{code, KindOf};
+
+use base::Refusal;
 
 // The superblock's numbers. The log starts at block 2 on every good card, so that number is not kept.
 #[repr(C)]
@@ -26,6 +29,42 @@ pub struct Super {
     pub bmapstart: u32,
 }
 
+// What an inode in use is. On the card it is a number: 0 is a free inode, and over 3 there is no kind.
+#[derive(Clone, Copy, PartialEq, Eq)]
+pub enum Kind {
+    Directory,
+    File,
+    Device,
+}
+
+impl Kind {
+    // The number on the card.
+    pub fn code(self) -> u16
+        ensures { result ≡ code self }
+    {
+        match self {
+            Kind::Directory => 1,
+            Kind::File => 2,
+            Kind::Device => 3,
+        }
+    }
+}
+
+impl TryFrom<u16> for Kind {
+    type Error = Refusal;
+
+    ghost try_from_gives = { KindOf };
+
+    fn try_from(code: u16) -> Result<Self, Refusal> {
+        match code {
+            1 => Ok(Kind::Directory),
+            2 => Ok(Kind::File),
+            3 => Ok(Kind::Device),
+            _ => Err(Refusal::BadCall),
+        }
+    }
+}
+
 // An inode, kept as the bits on the card: kind, major, minor and nlink are 16 bits each.
 #[derive(Clone, Copy)]
 pub struct Inode {
@@ -35,6 +74,15 @@ pub struct Inode {
     pub nlink: u16,
     pub size: u32,
     pub addrs: [u32; 13],
+}
+
+impl Inode {
+    // Whether it is of that kind.
+    pub fn is(&self, kind: Kind) -> bool
+        ensures { Decides result (self.now.kind ≡ code kind) }
+    {
+        self.kind == kind.code()
+    }
 }
 
 // A directory entry: an inode's number, 0 where the entry is free, and the name's 14 bytes.
@@ -63,56 +111,34 @@ fn laid(s: Super) -> bool
     requires { (s.nlog ≤ 30) × (s.ninodes ≤ 65535) × (s.size ≤ 8191) }
     ensures { Decides result (Laid s) }
 {
-    if s.inodestart != 2 + s.nlog {
-        return false;
-    }
-    if s.bmapstart != s.inodestart + s.ninodes / 16 + 1 {
+    if s.inodestart != 2 + s.nlog || s.bmapstart != s.inodestart + s.ninodes / 16 + 1 {
         return false;
     }
     let start = s.bmapstart + s.size / 8192 + 1;
-    if s.size <= start {
-        return false;
-    }
-    s.nblocks == s.size - start
+    start < s.size && s.nblocks == s.size - start
 }
 
 // The numbers are good, whatever they are.
 pub fn good_numbers(s: Super) -> bool
     ensures { Decides result (GoodNumbers s) }
 {
-    if s.nlog < 12 {
-        return false;
-    }
-    if 30 < s.nlog {
-        return false;
-    }
-    if s.ninodes < 2 {
-        return false;
-    }
-    if 65535 < s.ninodes {
-        return false;
-    }
-    if 8191 < s.size {
-        return false;
-    }
-    laid(s)
+    12 <= s.nlog
+        && s.nlog <= 30
+        && 2 <= s.ninodes
+        && s.ninodes <= 65535
+        && s.size <= 8191
+        && laid(s)
 }
 
 // A card has a good superblock; one that is too short to have any has not.
 pub fn good(image: &[u8]) -> bool
     ensures { Decides result (Good image.now) }
 {
-    if base::get_u32(image, 1024) != 0x10203040 {
-        return false;
-    }
-    if base::get_u32(image, 1044) != 2 {
-        return false;
-    }
     let s = super_of(image);
-    if !good_numbers(s) {
-        return false;
-    }
-    image.len() == base::place(s.size) * 1024
+    base::get_u32(image, 1024) == 0x10203040
+        && base::get_u32(image, 1044) == 2
+        && good_numbers(s)
+        && image.len() == s.size as usize * 1024
 }
 
 // Where inode i is: its block, and the byte in it.
@@ -134,10 +160,8 @@ fn addrs_of(s: &[u8]) -> [u32; 13]
     ensures { result ≡ tabulate (λ p. num_at (bytes s.now) (12 + 4 * p) 4) 13 }
 {
     let mut addrs = [0u32; 13];
-    let mut p: usize = 0;
-    while p < 13 {
+    for p in 0..13 {
         addrs[p] = base::get_u32(s, 12 + 4 * p);
-        p += 1;
     }
     addrs
 }
@@ -162,10 +186,8 @@ fn put_addrs(dst: &mut [u8], a: usize, addrs: &[u32; 13])
     requires { a + 64 ≤ length dst.old }
     ensures { bytes dst.new ≡ put (bytes dst.old) (a + 12) 52 (λ k. addr_bytes (bytes addrs.now) (12 + k)) }
 {
-    let mut p: usize = 0;
-    while p < 13 {
+    for p in 0..13 {
         base::put_u32(dst, a + 12 + 4 * p, addrs[p]);
-        p += 1;
     }
 }
 
@@ -186,17 +208,13 @@ pub fn put_inode(dst: &mut [u8], a: usize, r: Inode)
 pub fn with_size(r: Inode, size: u32) -> Inode
     ensures { result ≡ sized r size }
 {
-    let mut q = r;
-    q.size = size;
-    q
+    Inode { size, ..r }
 }
 
 pub fn with_nlink(r: Inode, nlink: u16) -> Inode
     ensures { result ≡ linked r nlink }
 {
-    let mut q = r;
-    q.nlink = nlink;
-    q
+    Inode { nlink, ..r }
 }
 
 pub fn with_addr(r: Inode, p: usize, b: u32) -> Inode
@@ -213,10 +231,8 @@ pub fn padded(part: &[u8]) -> [u8; 14]
     ensures { result ≡ padded_name part.now }
 {
     let mut name = [0u8; 14];
-    let mut k: usize = 0;
-    while k < 14 {
+    for k in 0..14 {
         name[k] = base::get(part, k);
-        k += 1;
     }
     name
 }

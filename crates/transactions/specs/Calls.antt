@@ -1,6 +1,6 @@
--- Mount, begin and end: document 01's rows of each, in its order, and what a call that meets none of them leaves. A refusal leaves the state
+-- Mount, begin and end: the refusals of each, in their order, and what a call that meets none of them leaves. A refusal leaves the state
 -- and every byte of the image as they were. Where no row holds, what the rows deny is said outright (`good`, `header`, `was`). Assumes nothing.
-use Rattle.std.specs.Prelude.{◌≡◌, ◌≢◌, List, [], ◌∷◌, ℕ, ◌+◌, ◌-◌, ◌*◌, ◌≤◌, ◌<◌, length}
+use Rattle.std.specs.Prelude.{◌≡◌, ◌≢◌, List, [], ◌∷◌, ℕ, ◌+◌, ◌-◌, ◌*◌, ◌≤◌, ◌<◌, length, Result, Ok, Err}
 use Rattle.base.specs.Bytes.{Bytes, bytes}
 use Rattle.base.specs.First.{tabulate}
 use Rattle.base.specs.Refusals as refusals
@@ -14,15 +14,15 @@ use Rattle.bio.specs.Seen.{buffer_of}
 use Rattle.card_log.specs.Journal.{Tx, held, GoodLog, logged, recover, recover_due, commit, commit_due}
 use Rattle.state.specs.declared.Volume.{Volume}
 use Rattle.state.specs.Whole.{Whole}
-use Rattle.transactions.specs.declared.Answer.{Answer}
-use Rattle.transactions.specs.declared.Answer.TheVariants.{Done, Cut, Refused}
-use Rattle.transactions.specs.declared.After.{After}
+use Rattle.transactions.specs.declared.Written.{Written}
+use Rattle.transactions.specs.declared.Written.TheVariants.{All, Cut}
+use Rattle.state.specs.declared.After.{After}
 
--- the paper's number of an answer, 0 for none, and the block writes that it reports
-abbrev pub paper : Answer → ℕ × ℕ
-paper (Done w) = (0, w)
-paper (Cut w) = (19, w)
-paper (Refused r) = (refusals.number r, 0)
+-- the number of an answer, 0 for none, and the block writes that it reports
+abbrev pub paper : Result Written Refusal → ℕ × ℕ
+paper (Ok (All w)) = (0, w)
+paper (Ok (Cut w)) = (19, w)
+paper (Err r) = (refusals.number r, 0)
 
 -- n zeros
 abbrev pub zeros : ℕ → List ℕ
@@ -61,12 +61,12 @@ ended v =
     }
 
 -- the state as it is given, with a refusal
-abbrev pub refused : Volume → Refusal → After
-refused v n = record { volume = v; answer = Refused n }
+abbrev pub refused : Volume → Refusal → After Written
+refused v n = record { volume = v; answer = Err n }
 
 -- what a call leaves that may write the card: its answer with the state, and the image
 abbrev pub Left : Type 0
-Left = After × List ℕ
+Left = After Written × List ℕ
 
 -- ---- mount
 
@@ -93,7 +93,7 @@ MountGives cache image writes = Gives (λ n. (refused no_volume n, image)) (moun
 
 -- ---- begin
 
--- document 01: busy when 1 + recorded + (open + 1)·10 > 30
+-- busy when 1 + recorded + (open + 1)·10 > 30
 abbrev pub IsBusy : ℕ → ℕ → Type 0
 IsBusy recorded opened = 30 < 1 + recorded + (opened + 1) * 10
 
@@ -104,12 +104,12 @@ begin_rows v image =
     ∷ []
 
 -- one operation more is open, and all else is the same
-pub record Begun (v : Volume) (image : List ℕ) (a : After) : Type 0 where
+pub record Begun (v : Volume) (image : List ℕ) (a : After Written) : Type 0 where
   pub was : Whole v image
   pub answer : paper a.answer ≡ (0, 0)
   pub volume : a.volume ≡ with_ops v (v.ops + 1)
 
-abbrev pub BeginGives : Volume → List ℕ → After → Type 0
+abbrev pub BeginGives : Volume → List ℕ → After Written → Type 0
 BeginGives v image = Gives (refused v) (begin_rows v image) (Begun v image)
 
 -- ---- end

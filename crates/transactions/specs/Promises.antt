@@ -1,6 +1,6 @@
 -- What follows from the contracts of mount, begin and end: the states that they leave are whole, a state that was cut is not, a finished end
 -- leaves on the card what was seen, and each contract fixes its answer, the state and the image. Assumes nothing.
-use Rattle.std.specs.Prelude.{◌≡◌, refl, ◌⊎◌, List, ℕ, ◌+◌, ◌-◌, ◌*◌, ◌≤◌, ◌<◌, length, get_or}
+use Rattle.std.specs.Prelude.{◌≡◌, refl, ◌⊎◌, List, ℕ, ◌+◌, ◌*◌, ◌≤◌, ◌<◌, length, get_or, Result, Ok, Err}
 use Rattle.std.proofs.Common.{sym, ◌∙◌, inl, inr, arith, ext_get_or}
 use Rattle.std.proofs.Math.Path.{ap}
 use Rattle.base.specs.Bytes.{Bytes, bytes}
@@ -19,16 +19,16 @@ use Rattle.card_log.specs.Crash.{commit_enough}
 use Rattle.card_log.proofs.Crash.{commit-holds}
 use Rattle.state.specs.declared.Volume.{Volume}
 use Rattle.state.specs.Whole.{Whole}
-use Rattle.transactions.specs.declared.Answer.{Answer}
-use Rattle.transactions.specs.declared.Answer.TheVariants.{Done, Cut, Refused}
-use Rattle.transactions.specs.declared.After.{After}
+use Rattle.transactions.specs.declared.Written.{Written}
+use Rattle.transactions.specs.declared.Written.TheVariants.{All, Cut}
+use Rattle.state.specs.declared.After.{After}
 use Rattle.transactions.specs.Calls.{Left, paper, refused, no_volume, idle, mounted, stopped, zeros, recorded_tx, mount_rows, begin_rows}
 use Rattle.transactions.specs.Calls.{Recovered, Begun, Committed, MountGives, BeginGives, EndGives}
 use Rattle.transactions.specs.Recorded.{numbers, recorded_good, buffer_below}
 use Rattle.transactions.specs.Afterwards.{more_whole, less_whole, ended_whole}
 use Rattle.transactions.specs.Survive.{replaced-seen, commit_super}
 
--- ---- the paper's numbers tell the answers apart
+-- ---- the numbers tell the answers apart
 
 refusal_number : (r : Refusal) → (0 < number r) × (number r < 19)
 refusal_number NotWhole = omega arith
@@ -50,15 +50,15 @@ refusal_number NoBuffer = omega arith
 refusal_number BadSuper = omega arith
 refusal_number BadLog = omega arith
 
-pub is_done : (a : Answer) (w : ℕ) → paper a ≡ (0, w) → a ≡ Done w
-is_done (Done x) w e = ap Done (ap (λ (q : ℕ × ℕ). q.1) e)
-is_done (Cut x) w e = absurd (let q = ap (λ (q : ℕ × ℕ). q.0) e in omega arith)
-is_done (Refused r) w e = absurd (let q = ap (λ (q : ℕ × ℕ). q.0) e in omega (arith, refusal_number r))
+pub is_done : (a : Result Written Refusal) (w : ℕ) → paper a ≡ (0, w) → a ≡ Ok (All w)
+is_done (Ok (All x)) w e = ap (λ (y : ℕ). Ok (All y)) (ap (λ (q : ℕ × ℕ). q.1) e)
+is_done (Ok (Cut x)) w e = absurd (let q = ap (λ (q : ℕ × ℕ). q.0) e in omega arith)
+is_done (Err r) w e = absurd (let q = ap (λ (q : ℕ × ℕ). q.0) e in omega (arith, refusal_number r))
 
-pub is_cut : (a : Answer) (w : ℕ) → paper a ≡ (19, w) → a ≡ Cut w
-is_cut (Done x) w e = absurd (let q = ap (λ (q : ℕ × ℕ). q.0) e in omega arith)
-is_cut (Cut x) w e = ap Cut (ap (λ (q : ℕ × ℕ). q.1) e)
-is_cut (Refused r) w e = absurd (let q = ap (λ (q : ℕ × ℕ). q.0) e in omega (arith, refusal_number r))
+pub is_cut : (a : Result Written Refusal) (w : ℕ) → paper a ≡ (19, w) → a ≡ Ok (Cut w)
+is_cut (Ok (All x)) w e = absurd (let q = ap (λ (q : ℕ × ℕ). q.0) e in omega arith)
+is_cut (Ok (Cut x)) w e = ap (λ (y : ℕ). Ok (Cut y)) (ap (λ (q : ℕ × ℕ). q.1) e)
+is_cut (Err r) w e = absurd (let q = ap (λ (q : ℕ × ℕ). q.0) e in omega (arith, refusal_number r))
 
 -- ---- the state after a cut or a refusal to mount is not whole, on any image: it answers 1
 
@@ -72,9 +72,9 @@ none_not image w = omega (arith, w.live)
 
 -- ---- the states that the calls leave are whole (of mount: `mount_whole` in Survive.antt)
 
-pub begin_whole : (v : Volume) (image : List ℕ) (a : After) → BeginGives v image a → (paper a.answer).0 ≡ 0 → Whole a.volume image
-begin_whole v image a (inl g) z = absurd (let q = ap (λ (m : After). (paper m.answer).0) g.1 in omega arith)
-begin_whole v image a (inr (n, inl g)) z = absurd (let q = ap (λ (m : After). (paper m.answer).0) g.1 in omega arith)
+pub begin_whole : (v : Volume) (image : List ℕ) (a : After Written) → BeginGives v image a → (paper a.answer).0 ≡ 0 → Whole a.volume image
+begin_whole v image a (inl g) z = absurd (let q = ap (λ (m : After Written). (paper m.answer).0) g.1 in omega arith)
+begin_whole v image a (inr (n, inl g)) z = absurd (let q = ap (λ (m : After Written). (paper m.answer).0) g.1 in omega arith)
 begin_whole v image a (inr (n, inr (b, r))) z = rw r.volume (more_whole v image r.was b)
 
 committed_whole : (v : Volume) (image : List ℕ) (cache : Bytes) (writes : ℕ) (l : Left) → Whole v image → Committed v image cache writes l
@@ -126,13 +126,13 @@ clean_seen blocks cache image = by_block _ _ (λ b i l. seen_out blocks (zeros 3
 
 -- ---- each contract fixes what the call leaves
 
-after_as : (a b : After) → a.volume ≡ b.volume → a.answer ≡ b.answer → a ≡ b
+after_as : (a b : After Written) → a.volume ≡ b.volume → a.answer ≡ b.answer → a ≡ b
 after_as a b p q = λ i. record { volume = p i; answer = q i }
 
 left_as : (l m : Left) → l.0 ≡ m.0 → length l.1 ≡ length m.1 → bytes l.1 ≡ bytes m.1 → l ≡ m
 left_as l m p q r = let z : l.1 ≡ m.1 = ext_get_or 0 l.1 m.1 q (λ i h. ap (λ (f : Bytes). f i) r) in λ i. (p i, z i)
 
-pub begin_one : (v : Volume) (image : List ℕ) (a b : After) → BeginGives v image a → BeginGives v image b → a ≡ b
+pub begin_one : (v : Volume) (image : List ℕ) (a b : After Written) → BeginGives v image a → BeginGives v image b → a ≡ b
 begin_one v image a b =
     gives_one (refused v) (begin_rows v image) (Begun v image) (λ x y. x ≡ y) (λ n x y p q. p ∙ sym q)
     (λ x y p q. after_as x y (p.volume ∙ sym q.volume) (is_done x.answer 0 p.answer ∙ sym (is_done y.answer 0 q.answer))) a b

@@ -1,6 +1,6 @@
 -- What a whole state records is good to commit: its homes are a good header, and its buffers and homes lie in the cache and the image.
 -- Assumes nothing.
-use Rattle.std.specs.Prelude.{◌≡◌, List, ℕ, ◌-◌, ◌*◌, ◌<◌, length, get_or}
+use Rattle.std.specs.Prelude.{◌≡◌, List, ℕ, ◌*◌, ◌<◌, length, get_or}
 use Rattle.std.proofs.Common.{sym, ap, ◌∙◌, arith}
 use Rattle.base.specs.Bytes.{Bytes, bytes}
 use Rattle.superblock.specs.declared.Super.{Super}

@@ -1,6 +1,6 @@
 // Transactions on a volume (log.rs: initlog, begin_op, end_op): mount recovers the card, begin opens an operation, the last end commits.
 //
-// Mount and end take the number of block writes that still reach the card, and answer how many did. What is on a card that was pulled is a
+// Mount and end take the number of block writes that still reach the card, and answer how many did: all that were due, or those before a cut. What is on a card that was pulled is a
 // theorem about these calls: specs/PulledCalls.antt.
 #![tactic(auto)]
 
@@ -10,54 +10,36 @@ ghost use Rattle.superblock.specs.Geometry.{Good, super_of};
 ghost use Rattle.bio.specs.Seen.{buffer_of};
 ghost use Rattle.card_log.specs.Journal.{GoodLog, logged};
 ghost use Rattle.state.specs.Whole.{Whole};
-ghost use Rattle.transactions.specs.Calls.{idle as idle_of, no_volume, with_ops, stopped as stopped_of, ended as ended_of, refused};
+ghost use Rattle.transactions.specs.Calls.{idle as idle_of, no_volume, with_ops, stopped as stopped_of, ended as ended_of};
 ghost use Rattle.transactions.specs.Calls.{Recovered, Committed, MountGives, BeginGives, EndGives};
 
 use base::Refusal;
 use bio::Table;
-use state::{Slots, Volume};
+use state::{After, Slots, Volume};
 use superblock::Super;
 
-// Done, or cut, with the number of block writes that reached the card; or a refusal.
+// How many block writes reached the card: all that were due, or those before the cut.
 #[derive(Clone, Copy)]
-pub enum Answer {
-    Done(usize),
+pub enum Written {
+    All(usize),
     Cut(usize),
-    Refused(Refusal),
-}
-
-// The state that a call leaves, and its answer.
-#[derive(Clone, Copy)]
-pub struct After {
-    pub volume: Volume,
-    pub answer: Answer,
-}
-
-fn refuse(v: Volume, n: Refusal) -> After
-    ensures { result ≡ refused v n }
-{
-    After {
-        volume: v,
-        answer: Answer::Refused(n),
-    }
 }
 
 // A volume with a fresh table, nothing open, nothing recorded, no slot in use.
+#[tactic(auto, unfolding(crate::specs::Calls::idle, base::specs::First::tabulate))]
 fn idle(sb: Super, live: u32) -> Volume
     ensures { result ≡ idle_of sb live }
 {
-    let table = bio::fresh();
-    let slots = Slots {
-        inums: [0; 50],
-        refs: [0; 50],
-    };
     Volume {
         sb,
-        table,
+        table: Table::fresh(),
         homes: [0; 30],
         recorded: 0,
         ops: 0,
-        slots,
+        slots: Slots {
+            inums: [0; 50],
+            refs: [0; 50],
+        },
         live,
     }
 }
@@ -76,152 +58,125 @@ fn no_volume() -> Volume
     idle(none, 0)
 }
 
-fn with_ops(v: Volume, k: u32) -> Volume
-    ensures { result ≡ with_ops v k }
+#[tactic(auto, unfolding(crate::specs::Calls::with_ops))]
+fn with_ops(v: Volume, ops: u32) -> Volume
+    ensures { result ≡ with_ops v ops }
 {
-    let mut u = v;
-    u.ops = k;
-    u
+    Volume { ops, ..v }
 }
 
 // After a commit that was cut.
+#[tactic(auto, unfolding(crate::specs::Calls::stopped))]
 fn stopped(v: Volume) -> Volume
     ensures { result ≡ stopped_of v }
 {
-    let mut u = v;
-    u.live = 0;
-    u
+    Volume { live: 0, ..v }
 }
 
 // After a commit that finished.
+#[tactic(auto, unfolding(crate::specs::Calls::ended, base::specs::First::tabulate))]
 fn ended(v: Volume) -> Volume
     ensures { result ≡ ended_of v }
 {
-    let blocks = v.table.blocks;
-    let order = v.table.order;
     let table = Table {
-        blocks,
         counts: [0; 30],
-        order,
+        ..v.table
     };
-    let mut u = v;
-    u.table = table;
-    u.recorded = 0;
-    u.ops = 0;
-    u
+    Volume {
+        table,
+        recorded: 0,
+        ops: 0,
+        ..v
+    }
 }
 
 // A recovery of a card whose superblock and log header are good.
-fn recover(image: &mut [u8], sb: Super, writes: usize) -> After
+fn recover(image: &mut [u8], sb: Super, writes: usize) -> After<Written>
     requires { Good image.old × (sb ≡ super_of (bytes image.old)) × GoodLog sb (logged (bytes image.old)) }
     ensures { Recovered image.old writes (result, image.new) }
 {
-    let n = base::place(base::get_u32(image, 2048));
+    let n = base::get_u32(image, 2048) as usize;
     let w = card_log::recover(image, writes);
     if w < card_log::recover_due(n) {
-        After {
-            volume: no_volume(),
-            answer: Answer::Cut(w),
-        }
+        state::done(no_volume(), Written::Cut(w))
     } else {
-        After {
-            volume: idle(sb, 1),
-            answer: Answer::Done(w),
-        }
+        state::done(idle(sb, 1), Written::All(w))
     }
 }
 
 // A card becomes a volume: what its log holds is installed. Of the cache's memory only the length is looked at.
-pub fn mount(image: &mut [u8], cache: &[u8], writes: usize) -> After
+pub fn mount(image: &mut [u8], cache: &[u8], writes: usize) -> After<Written>
     ensures { MountGives (length cache.now) image.old writes (result, image.new) }
 {
     if cache.len() != 30720 {
-        return refuse(no_volume(), Refusal::BadCall);
+        return state::refused(no_volume(), Refusal::BadCall);
     }
     if !superblock::good(image) {
-        return refuse(no_volume(), Refusal::BadSuper);
+        return state::refused(no_volume(), Refusal::BadSuper);
     }
     let sb = superblock::super_of(image);
     if !card_log::good_header(image, sb) {
-        return refuse(no_volume(), Refusal::BadLog);
+        return state::refused(no_volume(), Refusal::BadLog);
     }
     recover(image, sb, writes)
 }
 
 // The buffers of the first n homes.
-fn buffers<'b>(
-    blocks: &'b [u32; 30],
-    counts: &'b [u32; 30],
-    homes: &'b [u32; 30],
-    n: usize,
-) -> [usize; 30]
+fn buffers(table: &Table, homes: &[u32; 30], n: usize) -> [usize; 30]
     requires { n ≤ 30 }
-    ensures { (i : ℕ) → i < n → get_or result i 0 ≡ buffer_of blocks.now counts.now (get_or homes.now i 0) }
+    ensures { (i : ℕ) → i < n → get_or result i 0 ≡ buffer_of table.now.blocks table.now.counts (get_or homes.now i 0) }
 {
-    let mut bufs = [0usize; 30];
-    let mut i = 0;
-    while i < n {
-        bufs[i] = bio::buffer_of(blocks, counts, homes[i]);
-        i += 1;
+    let mut bufs = [0; 30];
+    for i in 0..n {
+        bufs[i] = table.buffer_of(homes[i]);
     }
     bufs
 }
 
 // The commit of what is recorded.
-fn commit(v: Volume, image: &mut [u8], cache: &[u8], writes: usize) -> After
+fn commit(v: Volume, image: &mut [u8], cache: &[u8], writes: usize) -> After<Written>
     requires { Whole v image.old × (length cache.now ≡ 30720) }
     ensures { Committed v image.old (bytes cache.now) writes (result, image.new) }
 {
-    let n = base::place(v.recorded);
-    let bufs = buffers(&v.table.blocks, &v.table.counts, &v.homes, n);
+    let n = v.recorded as usize;
+    let bufs = buffers(&v.table, &v.homes, n);
     let w = card_log::commit(image, cache, &v.homes, &bufs, n, writes);
     if w < card_log::commit_due(n) {
-        After {
-            volume: stopped(v),
-            answer: Answer::Cut(w),
-        }
+        state::done(stopped(v), Written::Cut(w))
     } else {
-        After {
-            volume: ended(v),
-            answer: Answer::Done(w),
-        }
+        state::done(ended(v), Written::All(w))
     }
 }
 
 // One more operation is open, where the log has room for all that it may record.
-pub fn begin(v: Volume, image: &[u8]) -> After
+pub fn begin(v: Volume, image: &[u8]) -> After<Written>
     ensures { BeginGives v image.now result }
 {
     if !state::whole(v, image) {
-        return refuse(v, Refusal::NotWhole);
+        return state::refused(v, Refusal::NotWhole);
     }
     if 30 < 1 + v.recorded + (v.ops + 1) * 10 {
-        return refuse(v, Refusal::Busy);
+        return state::refused(v, Refusal::Busy);
     }
-    After {
-        volume: with_ops(v, v.ops + 1),
-        answer: Answer::Done(0),
-    }
+    state::done(with_ops(v, v.ops + 1), Written::All(0))
 }
 
 // One operation less is open; the last one commits what is recorded.
-pub fn end(v: Volume, image: &mut [u8], cache: &[u8], writes: usize) -> After
+#[tactic(auto, using(crate::specs::Turns::closed, crate::specs::Turns::ended_last))]
+pub fn end(v: Volume, image: &mut [u8], cache: &[u8], writes: usize) -> After<Written>
     ensures { EndGives v image.old cache.now writes (result, image.new) }
 {
     if !state::whole(v, image) {
-        return refuse(v, Refusal::NotWhole);
+        return state::refused(v, Refusal::NotWhole);
     }
     if cache.len() != 30720 {
-        return refuse(v, Refusal::BadCall);
+        return state::refused(v, Refusal::BadCall);
     }
     if v.ops == 0 {
-        return refuse(v, Refusal::NoTransaction);
+        return state::refused(v, Refusal::NoTransaction);
     }
     if 1 < v.ops {
-        return After {
-            volume: with_ops(v, v.ops - 1),
-            answer: Answer::Done(0),
-        };
+        return state::done(with_ops(v, v.ops - 1), Written::All(0));
     }
     commit(v, image, cache, writes)
 }

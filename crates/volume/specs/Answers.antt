@@ -1,19 +1,35 @@
--- What a call answers as document 01 has it, and when a call's rows and its next state fix it. Assumes nothing.
-use Rattle.std.specs.Prelude.{◌≡◌, List, [], ◌∷◌, ℕ}
+-- What a call answers, and when a call's rows and its next state fix it. A row is a reason to refuse, with its number. Assumes nothing.
+use Rattle.std.specs.Prelude.{◌≡◌, List, [], ◌∷◌, ℕ, Result, Ok, Err}
 use Rattle.std.proofs.Common.{sym, ap, ◌∙◌, inl, inr}
+use Rattle.base.specs.Refusals.{number}
+use Rattle.base.specs.declared.Refusal.{Refusal}
 use Rattle.base.specs.Rows.{Row, Gives, gives_one}
 use Rattle.superblock.specs.Disk.{Disk}
 use Rattle.inode.specs.Lent.{disk_seen}
 use Rattle.state.specs.declared.Volume.{Volume}
+use Rattle.state.specs.declared.After.{After}
 
--- an answer as the paper has it: done, with its values, or one of its numbers instead
+-- an answer: done, with its values, or a refusal's number instead
 pub data Said (T : Type 0) : Type 0 where
   done : T → Said T
   instead : ℕ → Said T
 
+-- the number of an answer's refusal, or done, with its value
+abbrev pub told : {T : Type 0} → Result T Refusal → Said T
+told (Ok x) = done x
+told (Err r) = instead (number r)
+
 -- what a call that writes no memory leaves: the state, and what it says
 abbrev pub Left : Type 0 → Type 0
 Left T = Volume × Said T
+
+-- what a call left
+abbrev pub left : {T : Type 0} → After T → Left T
+left a = (a.volume, told a.answer)
+
+-- a call that was refused, and left the volume as it was
+abbrev pub declined : {T : Type 0} → Volume → Refusal → After T
+declined v r = record { volume = v; answer = Err r }
 
 -- number n instead, and the state as it was
 abbrev pub refused : {T : Type 0} → Volume → ℕ → Left T

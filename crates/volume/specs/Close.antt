@@ -1,29 +1,15 @@
--- close: document 01's rows 1 and 4, and the state with a reference less. Assumes nothing.
+-- close: the rows 1 and 4, and the state with a reference less. Assumes nothing.
 use Rattle.std.specs.Prelude.{◌≡◌, List, [], ◌∷◌, ℕ, ◌-◌, get_or, length, set}
 use Rattle.std.proofs.Common.{◌∙◌, inl, inr, length-set}
 use Rattle.base.specs.Rows.{Row, row}
-use Rattle.base.specs.Refusals.{number}
-use Rattle.base.specs.declared.Refusal.{Refusal}
 use Rattle.state.specs.Whole.{Whole, GoodSlots}
 use Rattle.state.specs.declared.Volume.{Volume}
 use Rattle.state.specs.declared.Handle.{Handle}
 use Rattle.slots.specs.Handles.{GoodHandle}
 use Rattle.slots.specs.Keeps.{good_less}
-use Rattle.volume.specs.Answers.{Said, done, instead, Left, refused, Answers, answers_one}
-use Rattle.volume.specs.declared.Closing.{Closing}
-use Rattle.volume.specs.declared.Closing.TheVariants.{Done, Refused}
-use Rattle.volume.specs.declared.AfterClose.{AfterClose}
+use Rattle.volume.specs.Answers.{done, Left, refused, Answers, answers_one}
 
--- the paper's number of the answer, or done, with no value
-abbrev pub close_says : Closing → Said Unit
-close_says Done = done record {}
-close_says (Refused r) = instead (number r)
-
--- what close leaves
-abbrev pub close_left : AfterClose → Left Unit
-close_left a = (a.volume, close_says a.answer)
-
--- document 01's rows for close
+-- the rows for close
 abbrev pub close_rows : Volume → List ℕ → Handle → List (Row ℕ)
 close_rows v image h =
     row 1 (Whole v image → ⊥)
@@ -83,8 +69,3 @@ close_whole v image h l w (inr (_, inr (_, g))) =
     (slots_whole v image v.slots.inums (set v.slots.refs h.slot (get_or v.slots.refs h.slot 0 - 1)) w w.lengths.inums
     (length-set v.slots.refs h.slot (get_or v.slots.refs h.slot 0 - 1) ∙ w.lengths.refs)
     (good_less v.slots.inums v.slots.refs v.sb.ninodes h.slot w.slots))
-
--- ---- where the code answers
-
-abbrev pub not_closed : Volume → Refusal → AfterClose
-not_closed v n = record { volume = v; answer = Refused n }

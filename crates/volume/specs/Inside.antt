@@ -2,7 +2,7 @@
 -- Assumes nothing.
 use Rattle.std.specs.Prelude.{◌≡◌, List, ℕ, ◌+◌, ◌-◌, ◌≤◌, ◌<◌, min, get_or, length, set, ℤ}
 use Rattle.std.proofs.Common.{sym, ap, ◌∙◌, arith, inl, inr}
-use Rattle.base.specs.Bytes.{Bytes, bytes, put, put_same}
+use Rattle.base.specs.Bytes.{Bytes, bytes}
 use Rattle.superblock.specs.declared.Inode.{Inode}
 use Rattle.superblock.specs.Geometry.{GoodNumbers, inode_addr}
 use Rattle.superblock.specs.Node.{Node, node, inode_at}
@@ -18,13 +18,13 @@ use Rattle.state.specs.Card.{card-numbers, card-length}
 use Rattle.state.specs.declared.Volume.{Volume}
 use Rattle.state.specs.declared.Handle.{Handle}
 use Rattle.slots.specs.Handles.{GoodHandle}
-use Rattle.volume.specs.Answers.{done, Left, disk_of}
+use Rattle.volume.specs.Answers.{done, Left, left, declined, disk_of}
+use Rattle.volume.specs.declared.Facts.{Facts}
 use Rattle.volume.specs.Signed.{signed}
 use Rattle.volume.specs.Close.{closed, with_slots}
-use Rattle.volume.specs.Stat.{Facts, facts_of, StatGives, stat_left, not_stated}
-use Rattle.volume.specs.Read.{ReadLeft, read_count, read_into, ReadGives, read_left, not_read, read_gave}
-use Rattle.volume.specs.declared.AfterStat.{AfterStat}
-use Rattle.volume.specs.declared.AfterRead.{AfterRead}
+use Rattle.volume.specs.Stat.{facts_of, StatGives}
+use Rattle.volume.specs.Read.{ReadGives, read_left, read_gave}
+use Rattle.state.specs.declared.After.{After}
 use Rattle.base.specs.declared.Refusal.TheVariants.{Unfit, WrongKind, PastEnd}
 
 -- the memory that a volume sees
@@ -90,19 +90,19 @@ module _ (v : Volume) (image cache : List ℕ) (h : Handle) (f : Inode) (w : Who
   pub from : From v.sb h.inum
   from = handle_from v image w h g
 
-  pub stat_unfit : {r : AfterStat} → (Fit v.sb (disk_of v cache image) (node f) → ⊥) → r ≡ not_stated v Unfit → StatGives v image cache h (stat_left r)
-  stat_unfit n q = inr (λ x. x w, inr (λ x. x c, inr (λ x. x g, inl (λ t. n (fit_fetched v image cache h f from e t), ap stat_left q))))
+  pub stat_unfit : {r : After Facts} → (Fit v.sb (disk_of v cache image) (node f) → ⊥) → r ≡ declined v Unfit → StatGives v image cache h (left r)
+  stat_unfit n q = inr (λ x. x w, inr (λ x. x c, inr (λ x. x g, inl (λ t. n (fit_fetched v image cache h f from e t), ap left q))))
 
   pub stat_told : (links : ℤ) → Fit v.sb (disk_of v cache image) (node f) → links ≡ signed f.nlink
       → StatGives v image cache h (v, done (record { kind = f.kind; nlink = links; size = f.size }))
   stat_told links t q = inr (λ x. x w, inr (λ x. x c, inr (λ x. x g, inr (λ x. x (fit_inode v image cache h f from e t), stat_done v image cache h f from e links q))))
 
   module _ (offset count : ℕ) (buffer : List ℕ) (b : count ≤ length buffer) where
-    pub read_unfit : {r : AfterRead} → (Fit v.sb (disk_of v cache image) (node f) → ⊥) → r ≡ not_read v Unfit → ReadGives v image cache h offset count buffer (read_left r buffer)
+    pub read_unfit : {r : After ℕ} → (Fit v.sb (disk_of v cache image) (node f) → ⊥) → r ≡ declined v Unfit → ReadGives v image cache h offset count buffer (read_left r buffer)
     read_unfit n q = inr (λ x. x w, inr (λ x. x c, inr (λ x. omega arith, inr (λ x. x g, inl (λ t. n (fit_fetched v image cache h f from e t), read_gave buffer q)))))
 
     module _ (t : Fit v.sb (disk_of v cache image) (node f)) where
-      pub read_device : {r : AfterRead} → f.kind ≡ 3 → r ≡ not_read v WrongKind → ReadGives v image cache h offset count buffer (read_left r buffer)
+      pub read_device : {r : After ℕ} → f.kind ≡ 3 → r ≡ declined v WrongKind → ReadGives v image cache h offset count buffer (read_left r buffer)
       read_device k q =
           inr (
             λ x. x w,
@@ -121,7 +121,7 @@ module _ (v : Volume) (image cache : List ℕ) (h : Handle) (f : Inode) (w : Who
             ),
           )
 
-      pub read_past : {r : AfterRead} (size : ℕ) → (f.kind ≡ 3 → ⊥) → size ≡ f.size → size < offset → r ≡ not_read v PastEnd → ReadGives v image cache h offset count buffer (read_left r buffer)
+      pub read_past : {r : After ℕ} (size : ℕ) → (f.kind ≡ 3 → ⊥) → size ≡ f.size → size < offset → r ≡ declined v PastEnd → ReadGives v image cache h offset count buffer (read_left r buffer)
       read_past size k s l q =
           inr (
             λ x. x w,

@@ -1,4 +1,4 @@
--- The calls on a mounted volume: what each answers, by document 01's rows, and the state that it leaves.
+-- The calls on a mounted volume: what each answers, row by row, and the state that it leaves.
 pub mod Answers
 pub mod Signed
 pub mod Close

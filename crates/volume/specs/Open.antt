@@ -1,33 +1,18 @@
--- open: document 01's rows 1, 2, 4, 5, 6, 7 and 11, and the state with a reference more on the slot that holds the inode, else on the lowest
+-- open: the rows 1, 2, 4, 5, 6, 7 and 11, and the state with a reference more on the slot that holds the inode, else on the lowest
 -- free one. Assumes nothing.
-use Rattle.std.specs.Prelude.{◌≡◌, cond, ◌≢◌, List, [], ◌∷◌, ℕ, ◌+◌, ◌<◌, get_or, length, set, eqb}
+use Rattle.std.specs.Prelude.{Result, Ok, Err, ◌≡◌, cond, ◌≢◌, List, [], ◌∷◌, ℕ, ◌+◌, ◌<◌, get_or, length, set, eqb}
 use Rattle.base.specs.Bytes.{bytes}
 use Rattle.base.specs.Rows.{Row, row}
-use Rattle.base.specs.Refusals.{number}
 use Rattle.base.specs.declared.Refusal.{Refusal}
 use Rattle.base.specs.declared.Refusal.TheVariants.{Unfit, NotDirectory, NoName}
 use Rattle.path.specs.Parts.{path_len}
 use Rattle.walk.specs.Walks.{walk_of}
-use Rattle.walk.specs.declared.Walk.{Walk}
-use Rattle.walk.specs.declared.Walk.TheVariants.{Reached, Refused as Stopped}
 use Rattle.state.specs.Whole.{Whole}
 use Rattle.state.specs.declared.Volume.{Volume}
 use Rattle.state.specs.declared.Handle.{Handle}
 use Rattle.slots.specs.Handles.{GoodHandle, Room, slot_for}
-use Rattle.volume.specs.Answers.{Said, done, instead, Left, refused, Answers, answers_one, disk_of}
+use Rattle.volume.specs.Answers.{done, Left, refused, Answers, answers_one, disk_of}
 use Rattle.volume.specs.Close.{with_slots}
-use Rattle.volume.specs.declared.Opening.{Opening}
-use Rattle.volume.specs.declared.Opening.TheVariants.{Done, Refused}
-use Rattle.volume.specs.declared.AfterOpen.{AfterOpen}
-
--- the paper's number of the answer, or done, with the handle
-abbrev pub open_says : Opening → Said Handle
-open_says (Done h) = done h
-open_says (Refused r) = instead (number r)
-
--- what open leaves
-abbrev pub open_left : AfterOpen → Left Handle
-open_left a = (a.volume, open_says a.answer)
 
 -- a walk of the path can start: it begins with "/", or the handle is good
 pub data Starts (inums refs path : List ℕ) (h : Handle) : Type 0 where
@@ -39,28 +24,28 @@ unfoldable pub origin : List ℕ → Handle → ℕ
 origin path h = cond (eqb (bytes path 0) 47) 1 h.inum
 
 -- the walk of the path on what the volume sees
-abbrev pub walked : Volume → List ℕ → List ℕ → List ℕ → Handle → Walk
+abbrev pub walked : Volume → List ℕ → List ℕ → List ℕ → Handle → Result ℕ Refusal
 walked v image cache path h = walk_of v.sb (disk_of v cache image) (origin path h) path
 
 -- the inode that a walk has reached
-abbrev pub reached : Walk → ℕ
-reached (Reached i) = i
-reached (Stopped r) = 0
+abbrev pub reached : Result ℕ Refusal → ℕ
+reached (Ok i) = i
+reached (Err r) = 0
 
 -- the slot for inode i: the one that holds it, else the lowest free one, else 50
 abbrev pub slot_in : Volume → ℕ → ℕ
 slot_in v i = slot_for v.slots.inums v.slots.refs i
 
--- document 01's rows for open; 5, 6 and 7 are what the walk met first
+-- the rows for open; 5, 6 and 7 are what the walk met first
 abbrev pub open_rows : Volume → List ℕ → List ℕ → List ℕ → Handle → List (Row ℕ)
 open_rows v image cache path h =
     row 1 (Whole v image → ⊥)
     ∷ row 2 (length cache ≢ 30720)
     ∷ row 2 (128 < path_len path)
     ∷ row 4 (Starts v.slots.inums v.slots.refs path h → ⊥)
-    ∷ row 5 (walked v image cache path h ≡ Stopped Unfit)
-    ∷ row 6 (walked v image cache path h ≡ Stopped NotDirectory)
-    ∷ row 7 (walked v image cache path h ≡ Stopped NoName)
+    ∷ row 5 (walked v image cache path h ≡ Err Unfit)
+    ∷ row 6 (walked v image cache path h ≡ Err NotDirectory)
+    ∷ row 7 (walked v image cache path h ≡ Err NoName)
     ∷ row 11 (Room v.slots.refs (slot_in v (reached (walked v image cache path h))) → ⊥)
     ∷ []
 
@@ -80,8 +65,3 @@ OpenGives v image cache path h = Answers (refused v) (open_rows v image cache pa
 
 pub open_one : (v : Volume) (image cache path : List ℕ) (h : Handle) (a b : Left Handle) → OpenGives v image cache path h a → OpenGives v image cache path h b → a ≡ b
 open_one v image cache path h a b p q = answers_one (refused v) (open_rows v image cache path h) (open_to v (reached (walked v image cache path h))) a b p q
-
--- ---- where the code answers
-
-abbrev pub not_opened : Volume → Refusal → AfterOpen
-not_opened v n = record { volume = v; answer = Refused n }

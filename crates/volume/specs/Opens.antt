@@ -1,5 +1,5 @@
 -- Where open answers, and that the state that it leaves is whole. Assumes nothing.
-use Rattle.std.specs.Prelude.{◌≡◌, refl, Bool, true, not, ◌⊎◌, List, ℕ, ◌+◌, ◌≤◌, ◌<◌, get_or, length, set}
+use Rattle.std.specs.Prelude.{Result, Ok, Err, ◌≡◌, refl, Bool, true, ◌⊎◌, List, ℕ, ◌+◌, ◌≤◌, ◌<◌, get_or, length, set}
 use Rattle.std.proofs.Common.{sym, ap, ◌∙◌, inl, inr, arith, length-set, get_or-set_same, eq-eqb, ne_eqb}
 use Rattle.std.proofs.Math.Decide.{ℕ_discrete, dec_lt}
 use Rattle.base.specs.Bytes.{bytes}
@@ -10,8 +10,6 @@ use Rattle.path.specs.Parts.{path_len}
 use Rattle.walk.specs.Step.{From}
 use Rattle.walk.specs.Walks.{walk_of}
 use Rattle.walk.specs.Reached.{OfWalk, unfit, not_directory, no_name, walk_reached, walk_only}
-use Rattle.walk.specs.declared.Walk.{Walk}
-use Rattle.walk.specs.declared.Walk.TheVariants.{Reached, Refused as Stopped}
 use Rattle.state.specs.Whole.{Whole}
 use Rattle.state.specs.declared.Volume.{Volume}
 use Rattle.state.specs.declared.Handle.{Handle}
@@ -20,8 +18,9 @@ use Rattle.slots.specs.Keeps.{good_more}
 use Rattle.volume.specs.Answers.{done, instead, Left, disk_of}
 use Rattle.volume.specs.Close.{with_slots, slots_whole}
 use Rattle.volume.specs.Inside.{numbers, handle_from}
-use Rattle.volume.specs.Open.{Starts, rooted, handled, origin, walked, reached, slot_in, opened, open_to, OpenGives, open_left, not_opened}
-use Rattle.volume.specs.declared.AfterOpen.{AfterOpen}
+use Rattle.volume.specs.Open.{Starts, rooted, handled, origin, walked, reached, slot_in, opened, open_to, OpenGives}
+use Rattle.state.specs.declared.After.{After}
+use Rattle.volume.specs.Answers.{left, declined}
 
 -- ---- where a walk starts
 
@@ -76,20 +75,20 @@ pub count_most : (v : Volume) (image : List ℕ) → Whole v image → (k : ℕ)
 count_most v image w k h = elim (dec_lt 0 (get_or v.slots.refs k 0)) [ yes l ↦ w.slots.count k h l | no l ↦ omega arith ]
 
 -- what the code's walk answered
-pub came : (v : Volume) (image cache path : List ℕ) (h : Handle) (i : ℕ) (t x : Walk) → i ≡ origin path h → t ≡ walk_of v.sb (disk_of v cache image) i path → t ≡ x
+pub came : (v : Volume) (image cache path : List ℕ) (h : Handle) (i : ℕ) (t x : Result ℕ Refusal) → i ≡ origin path h → t ≡ walk_of v.sb (disk_of v cache image) i path → t ≡ x
     → walked v image cache path h ≡ x
 came v image cache path h i t x e q z = ap (λ (j : ℕ). walk_of v.sb (disk_of v cache image) j path) (sym e) ∙ sym q ∙ z
 
 module _ (v : Volume) (image cache path : List ℕ) (h : Handle) (w : Whole v image) (c : length cache ≡ 30720) (p : 128 < path_len path → ⊥) (s : Starts v.slots.inums v.slots.refs path h) where
-  pub open_stopped : {r : AfterOpen} (x : Refusal) → walked v image cache path h ≡ Stopped x → r ≡ not_opened v x → OpenGives v image cache path h (open_left r)
+  pub open_stopped : {r : After Handle} (x : Refusal) → walked v image cache path h ≡ Err x → r ≡ declined v x → OpenGives v image cache path h (left r)
   open_stopped {r} x e q = go x (walk_only v.sb (disk_of v cache image) (origin path h) path x e) e q
     where
-      go : (x : Refusal) → OfWalk x → walked v image cache path h ≡ Stopped x → r ≡ not_opened v x → OpenGives v image cache path h (open_left r)
-      go x unfit e q = inr (λ n. n w, inr (λ n. n c, inr (p, inr (λ n. n s, inl (e, ap open_left q)))))
-      go x not_directory e q = inr (λ n. n w, inr (λ n. n c, inr (p, inr (λ n. n s, inr (λ y. let z : ◌≡◌ {A = ℕ} 0 1 = cc in absurd (omega arith), inl (e, ap open_left q))))))
-      go x no_name e q = inr (λ n. n w, inr (λ n. n c, inr (p, inr (λ n. n s, inr (λ y. let z : ◌≡◌ {A = ℕ} 0 1 = cc in absurd (omega arith), inr (λ y. let z : ◌≡◌ {A = ℕ} 0 1 = cc in absurd (omega arith), inl (e, ap open_left q)))))))
+      go : (x : Refusal) → OfWalk x → walked v image cache path h ≡ Err x → r ≡ declined v x → OpenGives v image cache path h (left r)
+      go x unfit e q = inr (λ n. n w, inr (λ n. n c, inr (p, inr (λ n. n s, inl (e, ap left q)))))
+      go x not_directory e q = inr (λ n. n w, inr (λ n. n c, inr (p, inr (λ n. n s, inr (λ y. let z : ◌≡◌ {A = ℕ} 0 1 = cc in absurd (omega arith), inl (e, ap left q))))))
+      go x no_name e q = inr (λ n. n w, inr (λ n. n c, inr (p, inr (λ n. n s, inr (λ y. let z : ◌≡◌ {A = ℕ} 0 1 = cc in absurd (omega arith), inr (λ y. let z : ◌≡◌ {A = ℕ} 0 1 = cc in absurd (omega arith), inl (e, ap left q)))))))
 
-  module _ (i : ℕ) (e : walked v image cache path h ≡ Reached i) where
+  module _ (i : ℕ) (e : walked v image cache path h ≡ Ok i) where
     past_walk : {l : Left Handle} → ((Room v.slots.refs (slot_in v (reached (walked v image cache path h))) → ⊥) × (l ≡ (v, instead 11)))
         ⊎ (((Room v.slots.refs (slot_in v (reached (walked v image cache path h))) → ⊥) → ⊥) × (l ≡ open_to v (reached (walked v image cache path h))))
         → OpenGives v image cache path h l
@@ -114,8 +113,8 @@ module _ (v : Volume) (image cache path : List ℕ) (h : Handle) (w : Whole v im
     is_i : reached (walked v image cache path h) ≡ i
     is_i = ap reached e
 
-    pub open_full : {r : AfterOpen} (k : ℕ) → k ≡ slot_in v i → (Room v.slots.refs k → ⊥) → r ≡ not_opened v NoSlot → OpenGives v image cache path h (open_left r)
-    open_full k z n q = past_walk (inl (λ m. n (rw (z ∙ ap (slot_in v) (sym is_i)) m), ap open_left q))
+    pub open_full : {r : After Handle} (k : ℕ) → k ≡ slot_in v i → (Room v.slots.refs k → ⊥) → r ≡ declined v NoSlot → OpenGives v image cache path h (left r)
+    open_full k z n q = past_walk (inl (λ m. n (rw (z ∙ ap (slot_in v) (sym is_i)) m), ap left q))
 
     pub open_told : (k n m : ℕ) (inums refs : List ℕ) → k ≡ slot_in v i → Room v.slots.refs k → n ≡ get_or v.slots.refs k 0 → inums ≡ set v.slots.inums k i → refs ≡ set v.slots.refs k (n + 1)
         → m ≡ k → OpenGives v image cache path h (with_slots v inums refs, done (record { slot = m; inum = i }))
@@ -162,14 +161,14 @@ module _ (v : Volume) (image cache path : List ℕ) (h : Handle) (w : Whole v im
       arrived : From v.sb named
       arrived = go (walked v image cache path h) refl
         where
-          never : (x : Refusal) → OfWalk x → walked v image cache path h ≡ Stopped x → ⊥
+          never : (x : Refusal) → OfWalk x → walked v image cache path h ≡ Err x → ⊥
           never x unfit e = u e
           never x not_directory e = d e
           never x no_name e = n e
 
-          go : (t : Walk) → walked v image cache path h ≡ t → From v.sb (reached t)
-          go (Reached i) e = (walk_reached v.sb (disk_of v cache image) (origin path h) path i (not_denied v image w path h s) e).from
-          go (Stopped x) e = absurd (never x (walk_only v.sb (disk_of v cache image) (origin path h) path x e) e)
+          go : (t : Result ℕ Refusal) → walked v image cache path h ≡ t → From v.sb (reached t)
+          go (Ok i) e = (walk_reached v.sb (disk_of v cache image) (origin path h) path i (not_denied v image w path h s) e).from
+          go (Err x) e = absurd (never x (walk_only v.sb (disk_of v cache image) (origin path h) path x e) e)
 
       below : slot < 50
       below = elim (dec_lt slot 50) [ yes y ↦ y | no y ↦ absurd (m (λ r. y r.slot)) ]

@@ -1,34 +1,25 @@
--- read: document 01's rows 1, 2, 4, 5, 8 and 9; the bytes of the content as it is seen, and the buffer past them untouched. Assumes nothing.
+-- read: the rows 1, 2, 4, 5, 8 and 9; the bytes of the content as it is seen, and the buffer past them untouched. Assumes nothing.
 use Rattle.std.specs.Prelude.{◌≡◌, refl, ◌≢◌, List, [], ◌∷◌, ℕ, ◌+◌, ◌-◌, ◌<◌, min, length}
 use Rattle.std.proofs.Common.{ap}
 use Rattle.base.specs.Bytes.{Bytes, bytes, put}
 use Rattle.base.specs.Rows.{Row, row}
-use Rattle.base.specs.Refusals.{number}
-use Rattle.base.specs.declared.Refusal.{Refusal}
 use Rattle.superblock.specs.Disk.{Disk}
 use Rattle.rules.specs.Fit.{Fit, byte_of}
 use Rattle.state.specs.Whole.{Whole}
 use Rattle.state.specs.declared.Volume.{Volume}
 use Rattle.state.specs.declared.Handle.{Handle}
 use Rattle.slots.specs.Handles.{GoodHandle}
-use Rattle.volume.specs.Answers.{Said, done, instead, Answers, answers_one, answers_keep, disk_of}
-use Rattle.volume.specs.declared.Reading.{Reading}
-use Rattle.volume.specs.declared.Reading.TheVariants.{Done, Refused}
-use Rattle.volume.specs.declared.AfterRead.{AfterRead}
-
--- the paper's number of the answer, or done, with how many bytes were read
-abbrev pub read_says : Reading → Said ℕ
-read_says (Done n) = done n
-read_says (Refused r) = instead (number r)
+use Rattle.volume.specs.Answers.{Said, done, instead, told, Answers, answers_one, answers_keep, disk_of}
+use Rattle.state.specs.declared.After.{After}
 
 -- what read leaves: the state, what it says, and what the buffer holds
 abbrev pub ReadLeft : Type 0
 ReadLeft = Volume × Said ℕ × Bytes
 
-abbrev pub read_left : AfterRead → List ℕ → ReadLeft
-read_left a buffer = (a.volume, read_says a.answer, bytes buffer)
+abbrev pub read_left : After ℕ → List ℕ → ReadLeft
+read_left a buffer = (a.volume, told a.answer, bytes buffer)
 
--- document 01's rows for read
+-- the rows for read
 abbrev pub read_rows : Volume → List ℕ → List ℕ → Handle → ℕ → ℕ → List ℕ → List (Row ℕ)
 read_rows v image cache h offset count buffer =
     row 1 (Whole v image → ⊥)
@@ -68,8 +59,5 @@ module _ (v : Volume) (image cache : List ℕ) (h : Handle) (offset count : ℕ)
 
 -- ---- where the code answers
 
-abbrev pub not_read : Volume → Refusal → AfterRead
-not_read v n = record { volume = v; answer = Refused n }
-
-pub read_gave : {a b : AfterRead} (buffer : List ℕ) → a ≡ b → read_left a buffer ≡ read_left b buffer
-read_gave buffer e = ap {B = ReadLeft} (λ (r : AfterRead). read_left r buffer) e
+pub read_gave : {a b : After ℕ} (buffer : List ℕ) → a ≡ b → read_left a buffer ≡ read_left b buffer
+read_gave buffer e = ap {B = ReadLeft} (λ (r : After ℕ). read_left r buffer) e

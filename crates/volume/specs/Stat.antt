@@ -1,36 +1,17 @@
--- stat: document 01's rows 1, 2, 4 and 5; kind, link count and size of the inode as it is seen. Assumes nothing.
-use Rattle.std.specs.Prelude.{◌≡◌, refl, ◌≢◌, List, [], ◌∷◌, ℕ, length, ℤ}
+-- stat: the rows 1, 2, 4 and 5; kind, link count and size of the inode as it is seen. Assumes nothing.
+use Rattle.std.specs.Prelude.{◌≡◌, refl, ◌≢◌, List, [], ◌∷◌, ℕ, length}
 use Rattle.base.specs.Rows.{Row, row}
-use Rattle.base.specs.Refusals.{number}
-use Rattle.base.specs.declared.Refusal.{Refusal}
 use Rattle.superblock.specs.Node.{Node}
 use Rattle.rules.specs.Fit.{Fit}
 use Rattle.state.specs.Whole.{Whole}
 use Rattle.state.specs.declared.Volume.{Volume}
 use Rattle.state.specs.declared.Handle.{Handle}
 use Rattle.slots.specs.Handles.{GoodHandle}
-use Rattle.volume.specs.Answers.{Said, done, instead, Left, refused, Answers, answers_one, answers_keep, disk_of}
+use Rattle.volume.specs.Answers.{done, Left, refused, Answers, answers_one, answers_keep, disk_of}
 use Rattle.volume.specs.Signed.{signed}
-use Rattle.volume.specs.declared.Stating.{Stating}
-use Rattle.volume.specs.declared.Stating.TheVariants.{Done, Refused}
-use Rattle.volume.specs.declared.AfterStat.{AfterStat}
+use Rattle.volume.specs.declared.Facts.{Facts}
 
--- what stat tells of an inode
-pub record Facts : Type 0 where
-  pub kind : ℕ
-  pub nlink : ℤ
-  pub size : ℕ
-
--- the paper's number of the answer, or done, with the three values
-abbrev pub stat_says : Stating → Said Facts
-stat_says (Done kind nlink size) = done (record { kind = kind; nlink = nlink; size = size })
-stat_says (Refused r) = instead (number r)
-
--- what stat leaves
-abbrev pub stat_left : AfterStat → Left Facts
-stat_left a = (a.volume, stat_says a.answer)
-
--- document 01's rows for stat
+-- the rows for stat
 abbrev pub stat_rows : Volume → List ℕ → List ℕ → Handle → List (Row ℕ)
 stat_rows v image cache h =
     row 1 (Whole v image → ⊥)
@@ -58,8 +39,3 @@ module _ (v : Volume) (image cache : List ℕ) (h : Handle) where
 
   pub stat_whole : (l : Left Facts) → Whole v image → StatGives v image cache h l → Whole l.0 image
   stat_whole l w g = rw (stat_same l g) w
-
--- ---- where the code answers
-
-abbrev pub not_stated : Volume → Refusal → AfterStat
-not_stated v n = record { volume = v; answer = Refused n }

@@ -1,4 +1,4 @@
--- A card given as bytes, for the marked cases 11 and 12 of document 01 (crate `cases`): case 1's, with two files in its root. Assumes nothing.
+-- A card given as bytes, for the table of cases (crate `cases`): two files in the root. Assumes nothing.
 use Rattle.std.specs.Prelude.{cond, List, [], ◌∷◌, ℕ, ◌+◌, ◌*◌, eqb}
 use Rattle.base.specs.Bytes.{Bytes, bytes, put}
 use Rattle.superblock.specs.declared.Super.{Super}

@@ -1,6 +1,5 @@
 -- slot_in: direct or listed.
 use mathlib.Core.Path.{◌∙◌}
-use Prim.Native.Nat.{◌-◌}
 use Rattle.base.specs.Bytes.{bytes}
 use Rattle.apart.specs.Apart.{by_direct, by_listed}
 use Rattle.apart.proofs.slot_in.Goals as goal

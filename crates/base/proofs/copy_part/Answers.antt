@@ -1,18 +1,10 @@
--- `base::copy_part` meets its contract. The loop's invariant: the first i bytes from d on are the source's, the rest is as it was; a turn is `store_more`. Assumes nothing.
-use mathlib.Core.Path.{◌≡◌, refl, sym}
-use native.Mathlib.Omega.{arith}
-use Prim.Native.Nat.{◌+◌}
-use lib.ListN.{length-set}
-use Rattle.base.specs.Bytes.{put-none, store_more}
+-- `base::copy_part` meets its contract: a part of a slice that comes back with the source's bytes in it. Assumes nothing.
+use Rattle.std.proofs.Common.{arith}
+use Rattle.std.specs.Prelude.{◌+◌, ◌-◌}
+use Rattle.base.specs.Bytes.{put_part, bytes_part}
 use Rattle.base.proofs.copy_part.Goals as goal
-
-pub loop-i-init : goal.loop-i-init
-loop-i-init c = (omega arith, refl, sym (put-none _ _ _))
-
-pub loop-i-preserved : goal.loop-i-preserved
-loop-i-preserved c = (omega arith, simp length-set (omega arith), store_more c.loop-i.dst _ c.args.d c.loop-i.i _ (c.args.d + c.loop-i.i) _ c.loop-i.invariant.2 refl (omega arith) refl)
 
 pub returns : goal.returns
 returns c =
-    let e : c.loop-i.i ≡ c.args.n = omega arith in
-    rw e at c.loop-i.invariant.2
+    let e = c.copy_from_slice.ensures in
+    put_part _ _ _ _ _ _ (omega arith) (omega (arith, e.len)) c.requires.0 (λ i h. rw e.after (bytes_part c.args.src.now c.args.s (c.args.s + c.args.n - c.args.s) i (omega arith)))

@@ -1,7 +1,7 @@
 -- `base::find` meets its contract. The loop's invariant: no number passed is b; what is found is `first-at`, the end `first-none`. Assumes nothing.
 use borrow.Author.Count.{below_more}
 use borrow.Author.Tests.{eq-eqb, ne_eqb}
-use mathlib.Core.Path.{◌≡◌, sym, ◌∙◌}
+use mathlib.Core.Path.{sym}
 use native.Mathlib.Omega.{arith}
 use Rattle.base.specs.First.{first-at, first-none}
 use borrow.Author.Rules.{rules}
@@ -17,6 +17,4 @@ pub loop-i-preserved : goal.loop-i-preserved
 loop-i-preserved c = (search rules, below_more _ _ c.loop-i.invariant.1 (ne_eqb _ _ c.if-xs-i.false))
 
 pub returns : goal.returns
-returns c =
-    let e : c.loop-i.i ≡ c.args.n = omega arith in
-    e ∙ sym (first-none _ _ (λ k h. c.loop-i.invariant.1 k (omega arith)))
+returns c = sym (first-none _ _ (λ k h. c.loop-i.invariant.1 k (omega arith)))

@@ -4,4 +4,4 @@ use Rattle.base.specs.Number.{from_two}
 use Rattle.base.proofs.get_u16.Goals as goal
 
 pub returns : goal.returns
-returns c = let a = c.args in from_two (bytes a.s.now) a.a _ _ _ c.get_past.ensures c.get_past-2.ensures c.join2.ensures
+returns c = let a = c.args in from_two (bytes a.s.now) a.a _ _ _ c.get_past.ensures c.get_past-2.ensures c.from_le_bytes.ensures

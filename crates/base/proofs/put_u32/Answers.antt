@@ -1,18 +1,10 @@
--- `base::put_u32` meets its contract. Four stores in a row are one `put`: `set_four`. Assumes nothing.
-use native.Mathlib.Omega.{arith}
-use lib.ListN.{length-set}
-use Rattle.base.specs.Number.{digit, set_four}
+-- `base::put_u32` meets its contract: the number's bytes are put into a part of the slice. Assumes nothing.
+use Rattle.std.proofs.Common.{arith}
+use Rattle.base.specs.Bytes.{put_part}
+use Rattle.base.specs.Number.{digit_four}
 use Rattle.base.proofs.put_u32.Goals as goal
 
-pub bounds-dst-a-2 : goal.bounds-dst-a-2
-bounds-dst-a-2 c = simp length-set (omega arith)
-
-pub bounds-dst-a-3 : goal.bounds-dst-a-3
-bounds-dst-a-3 c = simp length-set (omega arith)
-
-pub bounds-dst-a-4 : goal.bounds-dst-a-4
-bounds-dst-a-4 c = simp length-set (omega arith)
-
 pub returns : goal.returns
-unfolding digit
-returns c = set_four c.args.dst.now c.args.a (digit c.args.v) (omega arith)
+returns c =
+    let e = c.copy_from_slice.ensures in
+    put_part _ _ _ _ _ _ (omega arith) (omega (arith, e.len)) c.requires (λ i h. rw (e.after, c.to_le_bytes.ensures) (digit_four c.args.v i h))

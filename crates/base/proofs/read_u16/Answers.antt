@@ -5,4 +5,4 @@ use Rattle.base.specs.Number.{from_two, here}
 use Rattle.base.proofs.read_u16.Goals as goal
 
 pub returns : goal.returns
-returns c = let a = c.args in from_two (bytes a.s.now) a.a _ _ _ (here (bytes a.s.now) a.a) refl c.join2.ensures
+returns c = let a = c.args in from_two (bytes a.s.now) a.a _ _ _ (here (bytes a.s.now) a.a) refl c.from_le_bytes.ensures

@@ -5,4 +5,4 @@ use Rattle.base.specs.Number.{from_four, here}
 use Rattle.base.proofs.read_u32.Goals as goal
 
 pub returns : goal.returns
-returns c = let a = c.args in from_four (bytes a.s.now) a.a _ _ _ _ _ (here (bytes a.s.now) a.a) refl refl refl c.join4.ensures
+returns c = let a = c.args in from_four (bytes a.s.now) a.a _ _ _ _ _ (here (bytes a.s.now) a.a) refl refl refl c.from_le_bytes.ensures

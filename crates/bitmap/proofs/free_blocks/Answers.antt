@@ -4,4 +4,4 @@ use Rattle.bitmap.specs.Search.{free_seen, found-same}
 use Rattle.bitmap.proofs.free_blocks.Goals as goal
 
 pub returns : goal.returns
-returns c = found-same _ _ _ _ _ (free_seen _ c.requires.0 _ (bytes c.block_in-map.result.now) c.block_in-map.ensures.byte) c.search.ensures
+returns c = found-same _ _ _ _ _ (free_seen _ c.requires.0 _ (bytes c.block.result.now) c.block.ensures.byte) c.search.ensures

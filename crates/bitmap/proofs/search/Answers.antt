@@ -8,20 +8,11 @@ use borrow.Author.Rules.{rules}
 use Rattle.bitmap.proofs.search.Goals as goal
 use Rattle.bitmap.proofs.search.Goals.{then-clear, else-clear}
 
-pub skip-b-requires : goal.skip-b-requires
-skip-b-requires c = (omega (arith, c.requires.0.laid.nblocks), c.requires.0.size_most)
-
 pub loop-b-init : goal.loop-b-init
 loop-b-init c = (search rules, sofar_skip _ _ _ _ _ _ _ (sofar_none _ _ _ _ _ refl (omega (arith, c.requires.0.laid.nblocks))) c.skip-b.ensures)
 
 pub returns-then-found-k : goal.returns-then-found-k
 returns-then-found-k c = found_enough _ _ _ _ _ _ c.loop-b.invariant.1 (omega arith)
-
-pub skip-b-requires-in-loop-b : goal.skip-b-requires-in-loop-b
-skip-b-requires-in-loop-b c = (omega arith, c.requires.0.size_most)
-
-pub loop-b-smaller : goal.loop-b-smaller
-loop-b-smaller c = omega (arith, c.skip-b-in-loop-b.ensures.low)
 
 pub loop-b-preserved : goal.loop-b-preserved
 loop-b-preserved c = elim c.if-clear.branch [

@@ -1,18 +1,15 @@
--- clear: the first i numbers are 0.
-use mathlib.Core.Path.{◌≡◌, refl, sym}
+-- clear: what is filled is 0, and the rest stays.
+use mathlib.Core.Path.{◌≡◌, ◌∙◌}
 use native.Mathlib.Omega.{arith}
-use Prim.Native.Nat.{◌-◌}
-use lib.ListN.{length-set}
-use Rattle.base.specs.Bytes.{put-none, store_more}
+use lib.ListN.{replicate}
+use lib.Seq.{length-take-le}
+use Rattle.std.proofs.lemmas.List.{get_or-replicate}
+use Rattle.base.specs.Bytes.{bytes_mid, put_same}
+use borrow.Author.Rules.{rules}
 use Rattle.blocks.proofs.clear.Goals as goal
-
-pub loop-i-init : goal.loop-i-init
-loop-i-init c = (omega arith, refl, sym (put-none _ _ _))
-
-pub loop-i-preserved : goal.loop-i-preserved
-loop-i-preserved c = (omega arith, simp length-set (omega arith), store_more c.loop-i.work _ 0 c.loop-i.i (λ k. 0) c.loop-i.i 0 c.loop-i.invariant.2 (omega arith) (omega arith) refl)
 
 pub returns : goal.returns
 returns c =
-    let e : c.loop-i.i ≡ c.args.n = omega arith in
-    rw e at c.loop-i.invariant.2
+    let l = length-take-le c.args.n c.args.work.now c.requires in
+    let e : c.fill.new.self ≡ replicate c.args.n 0 = c.fill.ensures.after (λ y h. search rules) ∙ rw l in
+    bytes_mid c.args.work.now c.fill.new.self 0 c.args.n (c.fill.ensures.len ∙ l) (omega arith) ∙ put_same _ 0 c.args.n _ _ (λ k m. rw e (get_or-replicate c.args.n k 0 0 m))

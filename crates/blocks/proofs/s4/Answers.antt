@@ -3,8 +3,8 @@ use Rattle.base.specs.Decide.{no_by, yes_by}
 use Rattle.blocks.specs.Marks.{s4_not_fresh, s4_bits, cleared}
 use Rattle.blocks.proofs.s4.Goals as goal
 
-pub returns-then-not-fresh : goal.returns-then-not-fresh
-returns-then-not-fresh c = s4_not_fresh _ c.requires.0 _ _ (cleared _ _ c.clear.ensures) c.requires.1 (no_by c.mark_all-fresh.ensures.fresh c.if-not-fresh.true)
+pub returns-else-mark_all : goal.returns-else-mark_all
+returns-else-mark_all c = rw c.if-mark_all.false (s4_not_fresh _ c.args.card.now.good _ _ (cleared _ _ c.clear.ensures) c.requires.0 (no_by c.mark_all.ensures.fresh c.if-mark_all.false))
 
-pub returns : goal.returns
-returns c = s4_bits _ c.requires.0 _ _ (cleared _ _ c.clear.ensures) c.requires.1 _ _ (c.mark_all-fresh.ensures.marks c.if-not-fresh.false) (yes_by c.mark_all-fresh.ensures.fresh c.if-not-fresh.false) c.bits_ok.ensures
+pub returns-then-mark_all : goal.returns-then-mark_all
+returns-then-mark_all c = s4_bits _ c.args.card.now.good _ _ (cleared _ _ c.clear.ensures) c.requires.0 _ _ (c.mark_all.ensures.marks c.if-mark_all.true) (yes_by c.mark_all.ensures.fresh c.if-mark_all.true) c.bits_ok.ensures

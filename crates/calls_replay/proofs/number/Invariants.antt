@@ -1,10 +1,6 @@
--- `calls_replay::number` is safe and ends. Assumes nothing.
-use Prim.Native.Nat.{◌-◌, ◌<◌}
-use lib.ListN.{length}
+-- The number so far has nine digits at most.
+use Rattle.std.proofs.Common.{◌<◌}
 use Rattle.calls_replay.proofs.number.Given as goal
 
-abbrev pub invariant-loop-i : goal.invariant-loop-i
-invariant-loop-i l = l.v < 1000000000
-
-abbrev pub decreases-loop-i : goal.decreases-loop-i
-decreases-loop-i l = length l.w - l.i
+abbrev pub invariant-loop-x : goal.invariant-loop-x
+invariant-loop-x l = l.v < 1000000000

@@ -1,24 +1,11 @@
 -- `commit_write` meets its contract: each branch is a case of `commit_write`. Assumes nothing.
 use mathlib.Core.Path.{◌∙◌, sym}
-use Prim.Native.Nat.{◌-◌, ◌<◌}
 use native.Mathlib.Omega.{arith}
 use Rattle.base.specs.Bytes.{bytes}
 use Rattle.card_log.specs.Journal.{held, emptied}
 use Rattle.card_log.specs.Installing.{install_last}
-use Rattle.card_log.specs.Crash.{source_below, target_fits}
 use Rattle.card_log.proofs.Crash.{commit-header, commit_install, commit-block}
 use Rattle.card_log.proofs.commit_write.Goals as goal
-
-pub offset_bounds-bufs-i : goal.offset_bounds-bufs-i
-offset_bounds-bufs-i c = omega (arith, source_below _ _ _ c.if-k-n.false c.if-k-n-2.true c.source-i.ensures)
-
-pub bounds-bufs-i : goal.bounds-bufs-i
-bounds-bufs-i c = omega (arith, source_below _ _ _ c.if-k-n.false c.if-k-n-2.true c.source-i.ensures)
-
-pub put_buffer-requires : goal.put_buffer-requires
-put_buffer-requires c =
-    let l : c.source-i.result < c.args.n = source_below _ _ _ c.if-k-n.false c.if-k-n-2.true c.source-i.ensures in
-    (target_fits _ _ _ _ _ _ _ c.requires.ready c.if-k-n.false c.if-k-n-2.true c.target-b.ensures, omega (arith, c.requires.ready.buf c.source-i.result l, c.requires.ready.memory))
 
 pub returns-then-k-n : goal.returns-then-k-n
 unfolding held
@@ -28,7 +15,7 @@ returns-then-k-n c =
     c.put_header.ensures ∙ sym (commit-header t a.k (bytes a.image.now) (omega arith))
 
 pub returns-then-k-n-2 : goal.returns-then-k-n-2
-returns-then-k-n-2 c = commit-block _ _ _ _ _ _ _ _ _ c.if-k-n.false c.if-k-n-2.true c.target-b.ensures c.source-i.ensures c.put_buffer.ensures
+returns-then-k-n-2 c = commit-block _ _ _ _ _ _ _ _ _ c.if-k-n.false c.if-k-n-2.true c.target.ensures c.source.ensures c.put_buffer.ensures
 
 pub returns-else-k-n-2 : goal.returns-else-k-n-2
 unfolding held emptied

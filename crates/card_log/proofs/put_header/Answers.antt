@@ -1,6 +1,6 @@
 -- `put_header` meets its contract: the homes are put one after the other, then the length before them. Assumes nothing.
 use mathlib.Core.Path.{◌≡◌, ◌∙◌, sym, ap, refl}
-use Prim.Native.Nat.{ℕ, ◌-◌, ◌+◌, ◌*◌}
+use Prim.Native.Nat.{ℕ, ◌+◌, ◌*◌}
 use native.Mathlib.Omega.{arith}
 use Rattle.base.specs.Bytes.{Bytes, bytes, put}
 use Rattle.base.specs.Number.{digit}
@@ -20,10 +20,10 @@ end d i n v h m z p q =
     ∙ words_cons d header 2052 n v h (words n h) refl (sym z) (words_suc n h)
 
 pub loop-i-init : goal.loop-i-init
-loop-i-init c = (omega arith, refl, sym (words-none _ _ _))
+loop-i-init c = (refl, sym (words-none _ _ _))
 
 pub loop-i-preserved : goal.loop-i-preserved
-loop-i-preserved c = (omega arith, omega (arith, c.put_u32.auto.dst), turn (bytes c.args.image.now) 2052 c.loop-i.i (bytes c.args.homes.now) c.put_u32.ensures c.loop-i.invariant.2)
+loop-i-preserved c = (omega (arith, c.put_u32.auto.dst), turn (bytes c.args.image.now) 2052 c.loop-i.i (bytes c.args.homes.now) c.put_u32.ensures c.loop-i.invariant.1)
 
 pub returns : goal.returns
-returns c = end (bytes c.args.image.now) c.loop-i.i c.args.n c.small.result (bytes c.args.homes.now) (omega arith) c.small.ensures c.put_u32-2.ensures c.loop-i.invariant.2
+returns c = end (bytes c.args.image.now) c.loop-i.i c.args.n c.args.n (bytes c.args.homes.now) (omega arith) refl c.put_u32-2.ensures c.loop-i.invariant.1

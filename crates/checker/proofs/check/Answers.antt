@@ -1,12 +1,9 @@
 -- check: the lent part comes back and is cleared (`says_of`).
-use mathlib.Core.Path.{sym, ◌∙◌}
+use mathlib.Core.Path.{◌∙◌}
 use native.Mathlib.Omega.{arith}
 use lib.Seq.{length-take-le}
 use Rattle.checker.specs.Judge.{says_of}
 use Rattle.checker.proofs.check.Goals as goal
-
-pub slice_bounds-judge-end-2 : goal.slice_bounds-judge-end-2
-slice_bounds-judge-end-2 c = sym (length-take-le 65536 c.args.work.now c.if-work-lt65536.false)
 
 pub judge-verdict-requires : goal.judge-verdict-requires
 judge-verdict-requires c = omega (arith, length-take-le 65536 c.args.work.now c.if-work-lt65536.false)

@@ -4,12 +4,12 @@ use Prim.Native.Nat.{◌-◌, ◌+◌, ◌≤◌}
 use lib.ListN.{length}
 use Rattle.base.specs.Bytes.{bytes, put}
 use Rattle.superblock.specs.Node.{node}
-use Rattle.bio.specs.Seen.{seen}
+use Rattle.bio.specs.Memory.{memory}
 use Rattle.content.specs.Parts.{content_at}
 use Rattle.content.proofs.read_content.Given as goal
 
 abbrev pub invariant-loop-d : goal.invariant-loop-d
-invariant-loop-d l = (l.d ≤ l.n) × (length l.buffer ≡ length l.initial.buffer) × (bytes l.buffer ≡ put (bytes l.initial.buffer) 0 l.d (λ k. content_at (seen l.blocks l.counts (bytes l.cache) (bytes l.image)) (node l.f) (l.offset + k)))
+invariant-loop-d l = (l.d ≤ l.n) × (length l.buffer ≡ length l.initial.buffer) × (bytes l.buffer ≡ put (bytes l.initial.buffer) 0 l.d (λ k. content_at (memory l.card) (node l.f) (l.offset + k)))
 
 abbrev pub decreases-loop-d : goal.decreases-loop-d
 decreases-loop-d l = l.n - l.d

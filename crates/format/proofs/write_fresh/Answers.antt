@@ -6,5 +6,5 @@ use Rattle.format.proofs.write_fresh.Goals as goal
 pub returns : goal.returns
 returns c =
     c.put_root.ensures
-    ∙ rw (c.put_ones.ensures, c.put_inode.ensures, c.put_super.ensures, c.clear_part.ensures, all_zero, c.place-first.ensures, c.place-inodes.ensures, c.place-bitmap.ensures)
-    (fresh-written c.args.s c.requires.0 _ c.root_inode-root.ensures)
+    ∙ rw (c.put_ones.ensures, c.put_inode.ensures, c.put_super.ensures, all_zero _ _ (c.fill.ensures.after (λ y e. e)))
+    (fresh-written c.args.s c.requires.0 _ c.root_inode.ensures)

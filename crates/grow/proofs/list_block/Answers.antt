@@ -6,8 +6,5 @@ use Rattle.grow.proofs.list_block.Goals as goal
 pub returns-then-p-lt13 : goal.returns-then-p-lt13
 returns-then-p-lt13 c = list_direct _ _ _ _ c.args.s c.args.i c.args.p _ _ c.if-p-lt13.true c.put_addr.ensures
 
-pub put_u32_at-requires : goal.put_u32_at-requires
-put_u32_at-requires c = record { below = c.requires.entry (omega arith); inside = omega (arith, c.requires.few); memory = c.requires.memory }
-
 pub returns : goal.returns
 returns c = list_entry _ _ _ _ c.args.s c.args.i c.args.p _ _ (omega arith) c.put_u32_at.ensures

@@ -1,5 +1,4 @@
 -- file_block: direct, no indirect block, listed (Slots.block_direct, block_none, block_listed).
-use Prim.Native.Nat.{◌-◌}
 use Rattle.base.specs.Bytes.{bytes}
 use Rattle.inode.specs.Slots.{block_direct, block_none, block_listed}
 use Rattle.inode.proofs.file_block.Goals as goal
@@ -11,4 +10,4 @@ pub returns-then-b-eq0 : goal.returns-then-b-eq0
 returns-then-b-eq0 c = block_none _ c.args.f c.args.k c.if-k-lt12.false c.if-b-eq0.true
 
 pub returns : goal.returns
-returns c = block_listed _ c.args.f c.args.k (bytes c.block_in-t.result.now) c.get_u32.result c.if-k-lt12.false c.requires c.if-b-eq0.false c.block_in-t.ensures.byte c.get_u32.ensures
+returns c = block_listed _ c.args.f c.args.k (bytes c.block-t.result.now) c.get_u32.result c.if-k-lt12.false c.requires c.if-b-eq0.false c.block-t.ensures.byte c.get_u32.ensures

@@ -4,18 +4,14 @@ use Rattle.making.specs.Built.{may, can, has_slot, built}
 use borrow.Author.Rules.{rules}
 use Rattle.making.proofs.build.Goals as goal
 
--- src/lib.rt:183:13
 pub record_all-w-requires : goal.record_all-w-requires
-record_all-w-requires c = (may _ _ _ c.args.i c.args.kind c.args.p c.requires, c.requires.plan.few, c.requires.long)
+record_all-w-requires c = (may _ _ _ c.args.i c.args.want.kind c.args.p.now c.requires, c.requires.plan.few, c.requires.long)
 
--- src/lib.rt:184:5
 pub apply-requires : goal.apply-requires
-apply-requires c = can _ _ _ c.args.i c.args.kind c.args.p c.requires c.record_all-w.result _ c.record_all-w.ensures _ (omega (arith, c.requires.long))
+apply-requires c = can _ _ _ c.args.i c.args.want.kind c.args.p.now c.requires c.record_all-w.result _ c.record_all-w.ensures _ (omega (arith, c.requires.long))
 
--- src/lib.rt:197:5
 pub take_slot-requires : goal.take_slot-requires
-take_slot-requires c = has_slot _ _ _ c.args.i c.args.kind c.args.p c.requires c.record_all-w.result _ c.record_all-w.ensures _ c.slot_for-k.ensures
+take_slot-requires c = has_slot _ _ _ c.args.i c.args.want.kind c.args.p.now c.requires c.record_all-w.result _ c.record_all-w.ensures _ c.slot_for-k.ensures
 
--- src/lib.rt:167:1
 pub returns : goal.returns
-returns c = built _ _ _ c.args.i c.args.kind c.args.p c.requires c.record_all-w.result _ c.record_all-w.ensures c.args.major c.args.minor c.args.part.now _ c.take_slot.result _ (c.apply.auto.cache ∙ c.record_all-w.auto.cache ∙ c.requires.long) (λ x. search rules) c.apply.ensures c.slot_for-k.ensures c.take_slot.ensures
+returns c = built _ _ _ c.args.i c.args.want.kind c.args.p.now c.requires c.record_all-w.result _ c.record_all-w.ensures c.args.want.major c.args.want.minor c.args.part.now _ c.take_slot.result _ (c.apply.auto.cache ∙ c.record_all-w.auto.cache ∙ c.requires.long) (λ x. search rules) c.apply.ensures c.slot_for-k.ensures c.take_slot.ensures

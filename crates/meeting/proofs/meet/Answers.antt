@@ -1,16 +1,15 @@
-use mathlib.Core.Path.{refl, sym, ◌∙◌}
+use Rattle.std.proofs.Common.{rules, refl, sym, ◌∙◌, ◌≡◌, Err}
 use Rattle.walk.specs.Reached.{parent_there}
 use Rattle.meeting.specs.Meets.{met}
 use Rattle.meeting.proofs.meet.Goals as goal
 
--- src/lib.rt:88:45
+pub returns-in_err-p : goal.returns-in_err-p
+returns-in_err-p c =
+    let e : c.from_residual.result ≡ Err c.in_err-p.field-0.0 = search rules in
+    e ∙ met c.args.s _ c.args.i c.args.path.now _ _ (sym c.follow_parent.ensures ∙ c.in_err-p.was) refl
+
 pub seek-requires : goal.seek-requires
-seek-requires c = (c.requires.0, parent_there c.args.s _ c.args.i c.args.path.now _ _ _ c.requires.1 (sym c.follow_parent.ensures ∙ c.in-Dir.is))
+seek-requires c = (c.requires.0, parent_there c.args.s _ c.args.i c.args.path.now _ _ _ c.requires.1 (sym c.follow_parent.ensures ∙ c.in_ok-p.was))
 
--- src/lib.rt:75:1
-pub returns-in-Dir : goal.returns-in-Dir
-returns-in-Dir c = met c.args.s _ c.args.i c.args.path.now c.follow_parent.result _ _ c.follow_parent.ensures c.in-Dir.is c.seek.ensures
-
--- src/lib.rt:75:1
-pub returns-in-Not : goal.returns-in-Not
-returns-in-Not c = met c.args.s _ c.args.i c.args.path.now c.follow_parent.result _ _ c.follow_parent.ensures c.in-Not.is refl
+pub returns : goal.returns
+returns c = met c.args.s _ c.args.i c.args.path.now _ _ (sym c.follow_parent.ensures ∙ c.in_ok-p.was) c.seek.ensures

@@ -1,8 +1,6 @@
 -- component: the two cases of part_of.
 use mathlib.Core.Path.{◌≡◌, ap, sym, ◌∙◌}
 use native.Mathlib.Omega.{arith}
-use Prim.Native.Nat.{◌-◌}
-use mathlib.Core.Bool.{true, false}
 use Rattle.base.specs.Bytes.{bytes}
 use Rattle.path.specs.Parts.{start_of, end_of, part_end, part_name, start_le}
 use Rattle.path.proofs.component.Goals as goal

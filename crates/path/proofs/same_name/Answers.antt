@@ -1,21 +1,15 @@
--- same_name: all bytes passed agree (Names.differs, Names.agrees).
-use mathlib.Core.Path.{sym, ◌∙◌}
-use native.Mathlib.Omega.{arith}
-use Prim.Native.Nat.{◌+◌, ◌-◌}
-use borrow.Author.Count.{below_more}
+-- same_name: the library's test of all 14 bytes.
+use Rattle.std.proofs.Common.{◌∙◌, rules, tests, ℕ, ◌+◌}
+use Rattle.std.specs.Prelude.{eqb, refl}
+use Rattle.std.proofs.lemmas.Iterator.{YieldsList-from_range}
+use Rattle.std.proofs.lemmas.Iterator.Search.{all_from_yields_List}
 use Rattle.base.specs.Bytes.{bytes}
-use Rattle.path.specs.Names.{differs, agrees}
-use borrow.Author.Rules.{rules}
+use Rattle.path.specs.Search.{all_range}
+use Rattle.path.specs.Names.{same-padded}
 use Rattle.path.proofs.same_name.Goals as goal
 
-pub loop-k-init : goal.loop-k-init
-loop-k-init c = (search rules, λ k h. absurd (omega arith))
-
-pub returns-then-get_past-get : goal.returns-then-get_past-get
-returns-then-get_past-get c = differs (λ t. bytes c.args.s.now (c.args.o + t)) c.args.part.now c.loop-k.k c.get_past.result c.get.result c.loop-k-test.true c.get_past.ensures c.get.ensures c.if-get_past-get.true
-
-pub loop-k-preserved : goal.loop-k-preserved
-loop-k-preserved c = (search rules, below_more _ _ c.loop-k.invariant.1 (sym c.get_past.ensures ∙ c.if-get_past-get.false ∙ c.get.ensures))
-
 pub returns : goal.returns
-returns c = agrees (λ t. bytes c.args.s.now (c.args.o + t)) c.args.part.now (λ t h. c.loop-k.invariant.1 t (omega arith))
+returns c =
+    let test = λ (k : ℕ). eqb (bytes c.args.s.now (c.args.o + k)) (bytes c.args.part.now k) in
+    all_from_yields_List test _ _ _ c.all.ensures.ran (YieldsList-from_range 0 14 14 (cc) refl) (λ x b q k. search (rules, tests))
+    ∙ all_range test 14 ∙ same-padded (λ t. bytes c.args.s.now (c.args.o + t)) c.args.part.now

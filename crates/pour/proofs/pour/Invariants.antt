@@ -7,7 +7,7 @@ use Rattle.pour.specs.Pouring.{Pouring}
 use Rattle.pour.proofs.pour.Given as goal
 
 abbrev pub invariant-loop-a : goal.invariant-loop-a
-invariant-loop-a l = (l.a ≤ l.n) × (length l.cache ≡ 30720) × Pouring l.blocks l.counts (bytes l.initial.cache) (bytes l.cache) (bytes l.spots) l.offset (bytes l.src) l.n l.a
+invariant-loop-a l = (l.a ≤ l.n) × (length l.cache ≡ 30720) × Pouring l.table.blocks l.table.counts (bytes l.initial.cache) (bytes l.cache) (bytes l.spots) l.offset (bytes l.src) l.n l.a
 
 abbrev pub decreases-loop-a : goal.decreases-loop-a
 decreases-loop-a l = l.n - l.a

@@ -3,12 +3,8 @@ use mathlib.Core.Path.{◌≡◌}
 use mathlib.Core.Bool.{false}
 use lib.ListN.{get_or}
 use lib.Dec.{eqb}
-use Prim.Native.Nat.{ℕ, ◌-◌, ◌≤◌, ◌<◌}
-use Rattle.slots.specs.Handles.{free_slot}
+use Prim.Native.Nat.{ℕ, ◌≤◌, ◌<◌}
 use Rattle.slots.proofs.free_slot.Given as goal
 
 abbrev pub invariant-loop-k : goal.invariant-loop-k
-invariant-loop-k l = (l.k ≤ 50) × ((j : ℕ) → j < l.k → eqb (get_or l.refs j 0) 0 ≡ false)
-
-abbrev pub decreases-loop-k : goal.decreases-loop-k
-decreases-loop-k l = 50 - l.k
+invariant-loop-k l = (l.k ≤ 50) × ((j : ℕ) → j < l.k → eqb (get_or l.slots.refs j 0) 0 ≡ false)

@@ -1,5 +1,5 @@
 -- `superblock::padded` meets its contract: the loop has filled the first k bytes of the name (`filled_more`).
-use Prim.Native.Nat.{ℕ, ◌-◌, ◌<◌, ◌≤◌}
+use Prim.Native.Nat.{ℕ, ◌<◌, ◌≤◌}
 use mathlib.Core.Path.{◌≡◌}
 use lib.ListN.{length, get_or}
 use Rattle.base.specs.Bytes.{bytes}
@@ -7,6 +7,3 @@ use Rattle.superblock.proofs.padded.Given as goal
 
 abbrev pub invariant-loop-k : goal.invariant-loop-k
 invariant-loop-k l = (l.k ≤ 14) × (length l.name ≡ 14) × ((j : ℕ) → j < l.k → get_or l.name j 0 ≡ bytes l.part j)
-
-abbrev pub decreases-loop-k : goal.decreases-loop-k
-decreases-loop-k l = 14 - l.k

@@ -1,12 +1,9 @@
 -- `buffers` meets its contract: the first i buffers are those of their homes. Assumes nothing.
 use mathlib.Core.Path.{◌≡◌}
-use Prim.Native.Nat.{ℕ, ◌≤◌, ◌<◌, ◌-◌}
+use Prim.Native.Nat.{ℕ, ◌<◌}
 use lib.ListN.{length, get_or}
 use Rattle.bio.specs.Seen.{buffer_of}
 use Rattle.transactions.proofs.buffers.Given as goal
 
 abbrev pub invariant-loop-i : goal.invariant-loop-i
-invariant-loop-i l = (l.i ≤ l.n) × (length l.bufs ≡ 30) × ((k : ℕ) → k < l.i → get_or l.bufs k 0 ≡ buffer_of l.blocks l.counts (get_or l.homes k 0))
-
-abbrev pub decreases-loop-i : goal.decreases-loop-i
-decreases-loop-i l = l.n - l.i
+invariant-loop-i l = (length l.bufs ≡ 30) × ((k : ℕ) → k < l.i → get_or l.bufs k 0 ≡ buffer_of l.table.blocks l.table.counts (get_or l.homes k 0))

@@ -1,29 +1,17 @@
-use mathlib.Core.Path.{ap}
 use native.Mathlib.Omega.{arith}
-use Prim.Native.Nat.{ℕ, ◌*◌, ◌/◌}
+use Prim.Native.Nat.{◌*◌}
 use Rattle.base.specs.Bytes.{bytes}
 use Rattle.vacant.specs.Vacant.{entries_passed, entry_found, no_entry}
-use borrow.Author.Rules.{rules}
 use Rattle.vacant.proofs.free_entry.Goals as goal
 
--- src/lib.rt:85:5
-pub loop-b-init : goal.loop-b-init
-loop-b-init c = (search rules, λ j h m. absurd (omega arith))
+-- src/lib.rt:60:13
+pub returns-in-Some : goal.returns-in-Some
+returns-in-Some c = entry_found _ (bytes c.block-t.result.now) c.args.f c.loop-b.b c.file_block-at.result c.min-count.result c.block-t.ensures.byte c.file_block-at.ensures c.min-count.ensures c.loop-b.invariant _ c.in-Some.ensures
 
--- src/lib.rt:91:13
-pub returns-then-k-count : goal.returns-then-k-count
-returns-then-k-count c =
-    entry_found _ (bytes c.block_in-t.result.now) c.args.f c.loop-b.b c.file_block-at.result c.smaller-count.result _
-    c.block_in-t.ensures.byte c.file_block-at.ensures (ap (λ (x : ℕ). x / 16) c.place-n.ensures) c.smaller-count.ensures c.empty_in-k.result c.empty_in-k.ensures c.loop-b.invariant.1 c.if-k-count.true _ (omega arith)
-
--- src/lib.rt:85:5
+-- src/lib.rt:55:5
 pub loop-b-preserved : goal.loop-b-preserved
-loop-b-preserved c = (
-  search rules,
-  entries_passed _ (bytes c.block_in-t.result.now) c.args.f c.loop-b.b c.file_block-at.result c.smaller-count.result _
-      c.block_in-t.ensures.byte c.file_block-at.ensures (ap (λ (x : ℕ). x / 16) c.place-n.ensures) c.smaller-count.ensures c.empty_in-k.result c.empty_in-k.ensures c.loop-b.invariant.1 c.if-k-count.false,
-)
+loop-b-preserved c = entries_passed _ (bytes c.block-t.result.now) c.args.f c.loop-b.b c.file_block-at.result c.min-count.result c.block-t.ensures.byte c.file_block-at.ensures c.min-count.ensures c.loop-b.invariant c.in_default.ensures
 
--- src/lib.rt:73:1
+-- src/lib.rt:50:1
 pub returns : goal.returns
-returns c = no_entry _ c.args.f (c.loop-b.b * 64) _ (omega (arith, c.place-n.ensures)) (ap (λ (x : ℕ). x / 16) c.place-n.ensures) c.loop-b.invariant.1
+returns c = no_entry _ c.args.f (c.loop-b.b * 64) (omega (arith, c.div_ceil-b-end.ensures)) c.loop-b.invariant

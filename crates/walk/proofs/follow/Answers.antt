@@ -1,39 +1,34 @@
 -- follow: the walk from where it stands is the walk asked for; Walks has a law for each turn. Each step takes a byte of the path.
-use mathlib.Core.Path.{refl, sym, ◌∙◌}
-use native.Mathlib.Omega.{arith}
-use Prim.Native.Nat.{◌-◌}
-use lib.ListN.{length, drop, length-take, length-drop}
+use Rattle.std.proofs.Common.{rules, sym, ap, ◌∙◌, ◌≡◌, ◌-◌, Option, Ok, Err, arith, length, drop, length-take, length-drop}
+use Rattle.walk.specs.declared.Step.{Step}
 use Rattle.walk.specs.Step.{step_led}
 use Rattle.walk.specs.Walks.{walk_to, walk_stay, walk_no}
-use borrow.Author.Rules.{rules}
 use Rattle.walk.proofs.follow.Goals as goal
 
-pub loop-inum-init : goal.loop-inum-init
-loop-inum-init c = (search rules, c.requires.1, refl)
-
-pub advance-requires : goal.advance-requires
-advance-requires c = (c.requires.0, c.loop-inum.invariant.1)
+pub returns-in_err-step : goal.returns-in_err-step
+returns-in_err-step c =
+    let e : c.from_residual.result ≡ Err c.in_err-step.field-0.0 = search rules in
+    e ∙ sym (walk_no _ _ c.loop-step.i c.loop-step.at c.args.path.now _ (sym c.in_err-step.was ∙ c.advance.ensures)) ∙ c.loop-step.invariant.2
 
 pub overflow_add-at : goal.overflow_add-at
 overflow_add-at c =
-    let led = step_led _ _ _ _ _ _ (sym c.advance.ensures ∙ c.in-To.is) in
-    omega (arith, led.within, length-take (length c.args.path.now - c.loop-inum.at) (drop c.loop-inum.at c.args.path.now), length-drop c.loop-inum.at c.args.path.now)
+    let led = step_led _ _ _ _ _ _ (sym c.advance.ensures ∙ c.in_ok-step.was ∙ ap (λ (o : Option Step). Ok o) c.in-Some.is) in
+    omega (arith, led.within, length-take (length c.args.path.now - c.loop-step.at) (drop c.loop-step.at c.args.path.now), length-drop c.loop-step.at c.args.path.now)
 
-pub loop-inum-smaller : goal.loop-inum-smaller
-loop-inum-smaller c =
-    let led = step_led _ _ _ _ _ _ (sym c.advance.ensures ∙ c.in-To.is) in
-    omega (arith, led.within, led.took, length-take (length c.args.path.now - c.loop-inum.at) (drop c.loop-inum.at c.args.path.now), length-drop c.loop-inum.at c.args.path.now)
+pub loop-step-smaller : goal.loop-step-smaller
+loop-step-smaller c =
+    let led = step_led _ _ _ _ _ _ (sym c.advance.ensures ∙ c.in_ok-step.was ∙ ap (λ (o : Option Step). Ok o) c.in-Some.is) in
+    omega (arith, led.within, led.took, length-take (length c.args.path.now - c.loop-step.at) (drop c.loop-step.at c.args.path.now), length-drop c.loop-step.at c.args.path.now)
 
-pub loop-inum-preserved : goal.loop-inum-preserved
-loop-inum-preserved c =
-    let led = step_led _ _ _ _ _ _ (sym c.advance.ensures ∙ c.in-To.is) in (
-      omega (arith, led.within, length-take (length c.args.path.now - c.loop-inum.at) (drop c.loop-inum.at c.args.path.now), length-drop c.loop-inum.at c.args.path.now),
+pub loop-step-preserved : goal.loop-step-preserved
+loop-step-preserved c =
+    let q = sym c.advance.ensures ∙ c.in_ok-step.was ∙ ap (λ (o : Option Step). Ok o) c.in-Some.is in
+    let led = step_led _ _ _ _ _ _ q in (
+      omega (arith, led.within, length-take (length c.args.path.now - c.loop-step.at) (drop c.loop-step.at c.args.path.now), length-drop c.loop-step.at c.args.path.now),
       led.from,
-      sym (walk_to _ _ c.loop-inum.i c.loop-inum.at c.args.path.now _ _ (sym c.in-To.is ∙ c.advance.ensures)) ∙ c.loop-inum.invariant.2,
+      sym (walk_to _ _ c.loop-step.i c.loop-step.at c.args.path.now _ _ (sym q)) ∙ c.loop-step.invariant.2,
     )
 
-pub returns-in-Stay : goal.returns-in-Stay
-returns-in-Stay c = sym (walk_stay _ _ c.loop-inum.i c.loop-inum.at c.args.path.now (sym c.in-Stay.is ∙ c.advance.ensures)) ∙ c.loop-inum.invariant.2
-
-pub returns-in-No : goal.returns-in-No
-returns-in-No c = sym (walk_no _ _ c.loop-inum.i c.loop-inum.at c.args.path.now _ (sym c.in-No.is ∙ c.advance.ensures)) ∙ c.loop-inum.invariant.2
+pub returns : goal.returns
+returns c =
+    sym (walk_stay _ _ c.loop-step.i c.loop-step.at c.args.path.now (sym (sym c.advance.ensures ∙ c.in_ok-step.was ∙ ap (λ (o : Option Step). Ok o) c.in_default.is))) ∙ c.loop-step.invariant.2

@@ -2,13 +2,13 @@
 use mathlib.Core.Path.{◌≡◌}
 use Prim.Native.Nat.{◌-◌, ◌≤◌}
 use lib.ListN.{length, drop}
-use Rattle.inode.specs.Lent.{disk_seen}
+use Rattle.inode.specs.Lent.{disk_by}
 use Rattle.walk.specs.Step.{From}
 use Rattle.walk.specs.Parents.{parent_of, parent_from}
 use Rattle.walk.proofs.follow_parent.Given as goal
 
-abbrev pub invariant-loop-start : goal.invariant-loop-start
-invariant-loop-start l = (l.at ≤ length l.path) × From l.s l.i × (parent_from l.s (disk_seen l.s l.blocks l.counts l.cache l.image) l.i l.at (drop l.at l.path) ≡ parent_of l.s (disk_seen l.s l.blocks l.counts l.cache l.image) l.from l.path)
+abbrev pub invariant-loop-name : goal.invariant-loop-name
+invariant-loop-name l = (l.at ≤ length l.path) × From l.s l.i × (parent_from l.s (disk_by l.s l.card) l.i l.at (drop l.at l.path) ≡ parent_of l.s (disk_by l.s l.card) l.from l.path)
 
-abbrev pub decreases-loop-start : goal.decreases-loop-start
-decreases-loop-start l = length l.path - l.at
+abbrev pub decreases-loop-name : goal.decreases-loop-name
+decreases-loop-name l = length l.path - l.at

@@ -1,14 +1,11 @@
 -- `writing::apply` meets its contract: grown and poured (`applied-grown`), or poured alone (`applied-same`). Assumes nothing.
 use mathlib.Core.Path.{refl}
-use Rattle.writing.specs.Apply.{applied-grown, applied-same, pours_on}
-use borrow.Author.Rules.{rules}
+use Rattle.writing.specs.Apply.{applied-grown, applied-same}
 use Rattle.writing.proofs.apply.Goals as goal
-
-pub pour-requires : goal.pour-requires
-pour-requires c = pours_on _ _ _ _ _ _ _ _ c.requires.pours (search rules)
-
-pub returns-then-a-end : goal.returns-then-a-end
-returns-then-a-end c = applied-grown _ _ _ _ _ _ _ c.args.a c.args.offset _ c.args.count _ _ refl c.if-a-end.true c.small.ensures c.extend.ensures c.pour.ensures
+use Rattle.writing.proofs.apply.Goals.{then-a-end, else-a-end}
 
 pub returns : goal.returns
-returns c = applied-same _ _ _ _ _ _ c.args.a c.args.offset _ c.args.count _ refl c.if-a-end.false c.pour-2.ensures
+returns c = elim c.if-a-end.branch [
+  | then-a-end w ↦ applied-grown _ _ _ _ _ _ _ c.args.a c.args.offset _ c.args.count _ _ refl w.if-a-end.true refl w.extend.ensures (rw w.cache-is at c.pour.ensures)
+  | else-a-end w ↦ applied-same _ _ _ _ _ _ c.args.a c.args.offset _ c.args.count _ refl w.if-a-end.false (rw w.cache-is at c.pour.ensures)
+]

@@ -1,9 +1,0 @@
--- The table of boot, computed.
-use mathlib.Core.Path.{refl}
-use Rattle.base.specs.First.{tabulate}
-use Rattle.bio.specs.Fresh.{fresh_table}
-use Rattle.bio.proofs.fresh.Goals as goal
-
-pub returns : goal.returns
-unfolding fresh_table tabulate
-returns c = refl

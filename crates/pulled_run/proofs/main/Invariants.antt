@@ -1,9 +1,0 @@
--- `main` is safe and ends. Assumes nothing.
-use Prim.Native.Nat.{◌≤◌, ◌-◌}
-use Rattle.pulled_run.proofs.main.Given as goal
-
-abbrev pub invariant-loop-k : goal.invariant-loop-k
-invariant-loop-k l = l.k ≤ 12
-
-abbrev pub decreases-loop-k : goal.decreases-loop-k
-decreases-loop-k l = 12 - l.k

@@ -1,6 +1,0 @@
--- `recording::put_u16_at` meets its contract: a change of the buffer is that change of what is seen. Assumes nothing.
-use Rattle.recording.specs.Store.{changed}
-use Rattle.recording.proofs.put_u16_at.Goals as goal
-
-pub returns : goal.returns
-returns c = changed _ _ _ _ _ _ _ _ _ c.buffer_of-j.ensures c.requires.below c.requires.inside c.put_u16.ensures
