@@ -2,6 +2,7 @@
 -- free one. Assumes nothing.
 use Rattle.std.specs.Prelude.{Result, Ok, Err, ◌≡◌, cond, ◌≢◌, List, [], ◌∷◌, ℕ, ◌+◌, ◌<◌, get_or, length, set, eqb}
 use Rattle.base.specs.Bytes.{bytes}
+use Rattle.std.proofs.Common.{inl, inr}
 use Rattle.base.specs.Rows.{Row, row}
 use Rattle.base.specs.declared.Refusal.{Refusal}
 use Rattle.base.specs.declared.Refusal.TheVariants.{Unfit, NotDirectory, NoName}
@@ -52,6 +53,19 @@ open_rows v image cache path h =
 -- slot k is for inode i, with a reference more
 abbrev pub opened : Volume → ℕ → ℕ → Volume
 opened v k i = with_slots v (set v.slots.inums k i) (set v.slots.refs k (get_or v.slots.refs k 0 + 1))
+
+-- slot k can take a reference more
+pub record Takes (refs : List ℕ) (k : ℕ) : Type 0 where
+  pub slot : k < 50
+  pub below : get_or refs k 0 < 1000
+
+-- a reference taken on slot k, for inode i: 11 where it can take none, else the next state and the handle
+abbrev pub TakeGives : Volume → ℕ → ℕ → Left Handle → Type 0
+TakeGives v k i = Answers (refused v) (row 11 (Takes v.slots.refs k → ⊥) ∷ []) (opened v k i, done (record { slot = k; inum = i }))
+
+pub take_done : (v : Volume) (k i : ℕ) (l : Left Handle) → TakeGives v k i l → Takes v.slots.refs k → l ≡ (opened v k i, done (record { slot = k; inum = i }))
+take_done v k i l (inl g) t = absurd (g.0 t)
+take_done v k i l (inr g) t = g.1
 
 -- inode i opened: the next state, and its handle
 abbrev pub open_to : Volume → ℕ → Left Handle

@@ -8,8 +8,8 @@ ghost use Rattle.std.specs.Prelude.{◌≡◌, ℕ, ◌<◌, ◌≤◌, length, 
 ghost use Rattle.base.specs.Bytes.{bytes};
 ghost use Rattle.volume.specs.Signed.{IsSigned};
 ghost use Rattle.base.specs.Decide.{Decides};
-ghost use Rattle.volume.specs.Answers.{left, done};
-ghost use Rattle.volume.specs.Open.{OpenGives, Starts, origin, opened};
+ghost use Rattle.volume.specs.Answers.{left};
+ghost use Rattle.volume.specs.Open.{OpenGives, TakeGives, Starts, origin};
 ghost use Rattle.volume.specs.Close.{CloseGives};
 ghost use Rattle.volume.specs.Stat.{StatGives};
 ghost use Rattle.volume.specs.Read.{ReadGives, read_left};
@@ -49,11 +49,16 @@ pub fn start(path: &[u8], h: Handle) -> u32
     h.inum
 }
 
-// A reference is taken on slot k, for inode i: the handle.
+// A reference is taken on slot k, for inode i: the handle. What is no slot, and a slot with 1,000 references, is refused.
 pub fn take_slot(v: Volume, k: usize, i: u32) -> After<Handle>
-    requires { (k < 50) × (get_or v.slots.refs k 0 ≤ 1000) }
-    ensures { left result ≡ (opened v k i, done (record { slot = k; inum = i })) }
+    ensures { TakeGives v k i (left result) }
 {
+    if 50 <= k {
+        return state::refused(v, Refusal::NoSlot);
+    }
+    if 1000 <= v.slots.refs[k] {
+        return state::refused(v, Refusal::NoSlot);
+    }
     let mut w = v;
     w.slots.inums[k] = i;
     w.slots.refs[k] += 1;

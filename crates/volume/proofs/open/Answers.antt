@@ -1,9 +1,11 @@
 -- `volume::open` meets its contract: each answer is a row, or the next state, by the laws of specs/Opens. Assumes nothing.
+use native.Mathlib.Omega.{arith}
 use mathlib.Core.Path.{ap, refl}
 use mathlib.Core.Logic.{inl, inr}
 use Rattle.volume.specs.Opens.{start_from, count_most, came, open_stopped, open_full, open_told}
 use Rattle.base.specs.Decide.{no_by, yes_by}
 use Rattle.volume.specs.Answers.{left}
+use Rattle.volume.specs.Open.{take_done}
 use Rattle.volume.specs.Inside.{lent}
 use Rattle.volume.proofs.open.Goals as goal
 
@@ -26,10 +28,7 @@ pub returns-then-not-has_room : goal.returns-then-not-has_room
 returns-then-not-has_room c = open_full c.args.v c.args.image.now c.args.cache.now c.args.path.now c.args.h (yes_by c.whole.ensures c.if-not-whole.false) c.if-cache-ne30720.false (c.too_long.ensures.false_is c.if-too_long.false) (yes_by c.starts.ensures c.if-not-starts.false) _ (came c.args.v c.args.image.now c.args.cache.now c.args.path.now c.args.h c.start.result c.follow.result _ c.start.ensures c.follow.ensures c.in-Ok.is) _ c.slot_for-k.ensures (no_by c.has_room.ensures c.if-not-has_room.true) c.refused-then-not-has_room.ensures
 
 pub returns-else-not-has_room : goal.returns-else-not-has_room
-returns-else-not-has_room c = rw c.take_slot.ensures (open_told c.args.v c.args.image.now c.args.cache.now c.args.path.now c.args.h (yes_by c.whole.ensures c.if-not-whole.false) c.if-cache-ne30720.false (c.too_long.ensures.false_is c.if-too_long.false) (yes_by c.starts.ensures c.if-not-starts.false) _ (came c.args.v c.args.image.now c.args.cache.now c.args.path.now c.args.h c.start.result c.follow.result _ c.start.ensures c.follow.ensures c.in-Ok.is) c.slot_for-k.result _ _ _ _ c.slot_for-k.ensures (yes_by c.has_room.ensures c.if-not-has_room.false) refl refl refl refl)
-
-pub take_slot-requires : goal.take_slot-requires
-take_slot-requires c = let r = yes_by c.has_room.ensures c.if-not-has_room.false in (r.slot, count_most c.args.v c.args.image.now (yes_by c.whole.ensures c.if-not-whole.false) c.slot_for-k.result r.slot)
+returns-else-not-has_room c = rw (take_done _ _ _ _ c.take_slot.ensures (let r = (yes_by c.has_room.ensures c.if-not-has_room.false) in record { slot = r.slot; below = omega (arith, r.below, count_most c.args.v c.args.image.now (yes_by c.whole.ensures c.if-not-whole.false) c.slot_for-k.result r.slot) })) (open_told c.args.v c.args.image.now c.args.cache.now c.args.path.now c.args.h (yes_by c.whole.ensures c.if-not-whole.false) c.if-cache-ne30720.false (c.too_long.ensures.false_is c.if-too_long.false) (yes_by c.starts.ensures c.if-not-starts.false) _ (came c.args.v c.args.image.now c.args.cache.now c.args.path.now c.args.h c.start.result c.follow.result _ c.start.ensures c.follow.ensures c.in-Ok.is) c.slot_for-k.result _ _ _ _ c.slot_for-k.ensures (yes_by c.has_room.ensures c.if-not-has_room.false) refl refl refl refl)
 
 pub returns-in-Err : goal.returns-in-Err
 returns-in-Err c = open_stopped c.args.v c.args.image.now c.args.cache.now c.args.path.now c.args.h (yes_by c.whole.ensures c.if-not-whole.false) c.if-cache-ne30720.false (c.too_long.ensures.false_is c.if-too_long.false) (yes_by c.starts.ensures c.if-not-starts.false) _ (came c.args.v c.args.image.now c.args.cache.now c.args.path.now c.args.h c.start.result c.follow.result _ c.start.ensures c.follow.ensures c.in-Err.is) c.refused-in-Err.ensures
