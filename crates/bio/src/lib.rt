@@ -115,6 +115,19 @@ pub fn part(s: &[u8], i: usize) -> &[u8]
     &s[i..e]
 }
 
+// Block b as it is seen, found once: a part of the cache where a buffer holds it, else of the image. The part is lent by these two and not by the
+// table, so that a caller may change the table while it holds the block.
+pub fn block_in<'a>(table: &Table, image: &'a [u8], cache: &'a [u8], b: u32) -> &'a [u8]
+    ensures { IsBlock result.now table.now.blocks table.now.counts cache.now image.now b }
+{
+    let j = table.buffer_of(b);
+    if j < 30 {
+        part(cache, j * 1024)
+    } else {
+        part(image, b as usize * 1024)
+    }
+}
+
 // What is seen of a volume's memory: a block in a buffer with a reference is read from the cache, every other one from the card.
 #[derive(Clone, Copy)]
 pub struct Seen<'a> {
@@ -124,16 +137,11 @@ pub struct Seen<'a> {
 }
 
 impl<'a> Seen<'a> {
-    // Block b as it is seen, found once: a part of the cache where a buffer holds it, else of the image.
+    // Block b as it is seen.
     pub fn block(&self, b: u32) -> &'a [u8]
         ensures { IsBlock result.now self.now.table.now.blocks self.now.table.now.counts self.now.cache.now self.now.image.now b }
     {
-        let j = self.table.buffer_of(b);
-        if j < 30 {
-            part(self.cache, j * 1024)
-        } else {
-            part(self.image, b as usize * 1024)
-        }
+        block_in(self.table, self.image, self.cache, b)
     }
 }
 

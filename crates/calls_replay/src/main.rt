@@ -1,23 +1,25 @@
 // Replays calls on small cards: reads a script on standard input, one call a line, and writes one answer a line.
 //
 // The language is that of the comparison programs (oracle/README.md), as far as these calls go: mkfs, poke, mount, open, cwd, close, read,
-// stat and slots. The cards have 64 blocks at most. A refusal is `no N` with its number.
+// stat and slots. The cards have 64 blocks at most. A refusal is `no N` with its number. A read that fails ends the script, and what can't be written
+// is passed over. All memory is fixed: nothing can run out of it.
 #![tactic(auto)]
 
 ghost use Rattle.std.specs.Prelude.{◌≤◌, ◌<◌, ◌≡◌, length};
 
 use base::Refusal;
 use state::{Handle, Slots, Volume};
-use std::alloc::Global;
-use std::io::{self, Read};
+use std::fmt;
 use transactions::Written;
 use volume::Facts;
 
-// The volume, and the handles given since mount, 64 at most; `from` is the number of the one that a relative path starts at.
-#[derive(Drop)]
+// The volume, and the first `given` handles of 64, those given since mount; `from` is the number of the one that a relative path starts at. No Vec, since
+// the program has no heap.
+#[derive(Clone, Copy)]
 struct Session {
     volume: Volume,
-    handles: Vec<Handle>,
+    handles: [Handle; 64],
+    given: usize,
     from: usize,
 }
 
@@ -64,19 +66,26 @@ fn hex_digit(x: u8) -> u8
 
 // ---- what is written
 
-fn say_refusal(rt: &impl Print, why: Refusal) -> io::Result<()> {
-    println!(rt; "no {}", why.number())
+fn say_refusal(rt: &impl Print, why: Refusal) {
+    let _ = println!(rt; "no {}", why.number());
 }
 
-// The bytes, `-` for none.
-fn say_bytes(rt: &impl Print, s: &[u8]) -> io::Result<()> {
-    if s.is_empty() {
-        return print!(rt; "-");
+// Bytes as hex digits, `-` for none. They are printed as one text: a write for each byte takes longer than the read that they show.
+#[derive(Clone, Copy)]
+struct Hex<'a> {
+    bytes: &'a [u8],
+}
+
+impl fmt::Display for Hex<'_> {
+    fn fmt<W: fmt::Write>(&self, f: &mut fmt::Formatter<W>) -> fmt::Result {
+        if self.bytes.is_empty() {
+            return f.write_str("-");
+        }
+        for x in self.bytes {
+            write!(f, "{x:02x}")?;
+        }
+        Ok(())
     }
-    for x in s {
-        print!(rt; "{x:02x}")?;
-    }
-    Ok(())
 }
 
 // Whether a byte is no longer the 170 that the buffer was filled with.
@@ -119,7 +128,7 @@ fn put_pattern(image: &mut [u8], a: usize, s: usize, n: usize) {
 }
 
 // poke BLOCK OFFSET DATA, where the data are hex digits, or p:SEED:COUNT
-fn poke(rt: &impl Print, image: &mut [u8], line: &[u8]) -> io::Result<()> {
+fn poke(rt: &impl Print, image: &mut [u8], line: &[u8]) {
     let a = num(line, 1) * 1024 + num(line, 2);
     let w = word(line, 3, b' ');
     if base::get(w, 0) == b'p' {
@@ -127,61 +136,64 @@ fn poke(rt: &impl Print, image: &mut [u8], line: &[u8]) -> io::Result<()> {
     } else {
         put_hex(image, a, w);
     }
-    println!(rt; "ok")
+    let _ = println!(rt; "ok");
 }
 
 // ---- the calls
 
+// A handle that was not given is no good.
+const NONE: Handle = Handle { slot: 50, inum: 0 };
+
 // A volume as mount left it, with no handle given.
-fn started(alloc: Global, volume: Volume) -> Session {
+fn started(volume: Volume) -> Session {
     Session {
         volume,
-        handles: Vec::new(alloc),
+        handles: [NONE; 64],
+        given: 0,
         from: 64,
     }
 }
 
 // Before the first mount: that of a card with no superblock gives a volume that answers 1.
-fn unmounted(alloc: Global, cache: &[u8]) -> Session {
+fn unmounted(cache: &[u8]) -> Session {
     let mut none = [0u8; 1];
     let after = transactions::mount(&mut none, cache, 0);
-    started(alloc, after.volume)
+    started(after.volume)
 }
 
 // mkfs SIZE NINODES NLOG
-fn mkfs(rt: &impl Print, image: &mut [u8], line: &[u8]) -> io::Result<()> {
+fn mkfs(rt: &impl Print, image: &mut [u8], line: &[u8]) {
     match format::format(image, num32(line, 1), num32(line, 2), num32(line, 3)) {
         Ok(()) => {
             let s = superblock::super_of(image);
             let data = s.bmapstart as u64 + s.size as u64 / 8192 + 1;
-            println!(rt;
+            let _ = println!(rt;
                 "ok inodestart {} bmapstart {} data {data} nblocks {}",
                 s.inodestart, s.bmapstart, s.nblocks
-            )
+            );
         }
         Err(why) => say_refusal(rt, why),
     }
 }
 
 // mount: with all the writes that a recovery can take
-fn mount(rt: &impl Print, s: &mut Session, image: &mut [u8], cache: &[u8]) -> io::Result<()> {
+fn mount(rt: &impl Print, s: &mut Session, image: &mut [u8], cache: &[u8]) {
     let after = transactions::mount(image, cache, 30);
-    s.volume = after.volume;
-    s.handles.clear();
-    s.from = 64;
+    *s = started(after.volume);
     match after.answer {
-        Ok(Written::All(w)) => println!(rt; "ok writes {w}"),
-        Ok(Written::Cut(w)) => println!(rt; "cut {w}"),
+        Ok(Written::All(w)) => {
+            let _ = println!(rt; "ok writes {w}");
+        }
+        Ok(Written::Cut(w)) => {
+            let _ = println!(rt; "cut {w}");
+        }
         Err(why) => say_refusal(rt, why),
     }
 }
 
-// Handle k of those given; one that was not is no good.
-fn nth(handles: &[Handle], k: usize) -> Handle {
-    handles
-        .get(k)
-        .copied()
-        .unwrap_or(Handle { slot: 50, inum: 0 })
+// Handle k of those given.
+fn nth(handles: &[Handle; 64], k: usize) -> Handle {
+    handles.get(k).copied().unwrap_or(NONE)
 }
 
 // The path that a word gives: '' is the empty one.
@@ -190,47 +202,37 @@ fn path_of(w: &[u8]) -> &[u8] {
 }
 
 // open PATH
-fn open(
-    rt: &impl Print,
-    s: &mut Session,
-    image: &[u8],
-    cache: &[u8],
-    line: &[u8],
-) -> io::Result<()> {
+fn open(rt: &impl Print, s: &mut Session, image: &[u8], cache: &[u8], line: &[u8]) {
     let h = nth(&s.handles, s.from);
     let after = volume::open(s.volume, image, cache, path_of(word(line, 1, b' ')), h);
     s.volume = after.volume;
     match after.answer {
         Ok(g) => {
-            println!(rt; "ok h {} inode {} slot {}", s.handles.len(), g.inum, g.slot)?;
-            if s.handles.len() < 64 {
-                s.handles.push(g)?;
+            let _ = println!(rt; "ok h {} inode {} slot {}", s.given, g.inum, g.slot);
+            if s.given < 64 {
+                s.handles[s.given] = g;
+                s.given += 1;
             }
-            Ok(())
         }
         Err(why) => say_refusal(rt, why),
     }
 }
 
 // close H
-fn close(rt: &impl Print, s: &mut Session, image: &[u8], line: &[u8]) -> io::Result<()> {
+fn close(rt: &impl Print, s: &mut Session, image: &[u8], line: &[u8]) {
     let h = nth(&s.handles, num(line, 1));
     let after = volume::close(s.volume, image, h);
     s.volume = after.volume;
     match after.answer {
-        Ok(()) => println!(rt; "ok"),
+        Ok(()) => {
+            let _ = println!(rt; "ok");
+        }
         Err(why) => say_refusal(rt, why),
     }
 }
 
 // read H OFFSET N, into a lent buffer of 64 bytes that are all 170
-fn read(
-    rt: &impl Print,
-    s: &mut Session,
-    image: &[u8],
-    cache: &[u8],
-    line: &[u8],
-) -> io::Result<()> {
+fn read(rt: &impl Print, s: &mut Session, image: &[u8], cache: &[u8], line: &[u8]) {
     let h = nth(&s.handles, num(line, 1));
     let mut buffer = [170u8; 64];
     let after = volume::read(
@@ -246,22 +248,21 @@ fn read(
     match after.answer {
         Ok(n) => {
             let n = n.min(64);
-            print!(rt; "ok {n} ")?;
-            say_bytes(rt, &buffer[..n])?;
-            println!(rt;
-                "{}",
-                if touched(&buffer[n..]) {
-                    " TOUCHED"
-                } else {
-                    ""
-                }
-            )
+            let bytes = Hex {
+                bytes: &buffer[..n],
+            };
+            let more = if touched(&buffer[n..]) {
+                " TOUCHED"
+            } else {
+                ""
+            };
+            let _ = println!(rt; "ok {n} {bytes}{more}");
         }
         Err(why) => {
             if touched(&buffer) {
-                print!(rt; "TOUCHED ")?;
+                let _ = print!(rt; "TOUCHED ");
             }
-            say_refusal(rt, why)
+            say_refusal(rt, why);
         }
     }
 }
@@ -277,57 +278,45 @@ fn links(n: i16) -> &'static str {
 }
 
 // stat H
-fn stat(
-    rt: &impl Print,
-    s: &mut Session,
-    image: &[u8],
-    cache: &[u8],
-    line: &[u8],
-) -> io::Result<()> {
+fn stat(rt: &impl Print, s: &mut Session, image: &[u8], cache: &[u8], line: &[u8]) {
     let h = nth(&s.handles, num(line, 1));
     let after = volume::stat(s.volume, image, cache, h);
     s.volume = after.volume;
     match after.answer {
         Ok(Facts { kind, nlink, size }) => {
-            println!(rt;
+            let _ = println!(rt;
                 "ok inode {} kind {kind} nlink {} size {size}",
                 h.inum,
                 links(nlink)
-            )
+            );
         }
         Err(why) => say_refusal(rt, why),
     }
 }
 
 // The slots in use: slot, inode, references.
-fn say_slots(rt: &impl Print, slots: &Slots) -> io::Result<()> {
-    print!(rt; "ok")?;
+fn say_slots(rt: &impl Print, slots: &Slots) {
+    let _ = print!(rt; "ok");
     let mut none = true;
     for k in 0..50 {
         if slots.refs[k] != 0 {
             none = false;
-            print!(rt; " {k}:{}*{}", slots.inums[k], slots.refs[k])?;
+            let _ = print!(rt; " {k}:{}*{}", slots.inums[k], slots.refs[k]);
         }
     }
-    println!(rt; "{}", if none { " -" } else { "" })
+    let _ = println!(rt; "{}", if none { " -" } else { "" });
 }
 
 // cwd H
-fn cwd(rt: &impl Print, s: &mut Session, line: &[u8]) -> io::Result<()> {
+fn cwd(rt: &impl Print, s: &mut Session, line: &[u8]) {
     s.from = num(line, 1);
-    println!(rt; "ok")
+    let _ = println!(rt; "ok");
 }
 
 // ---- the script
 
 // A line is known by its first one or two letters; one that is not known does nothing.
-fn step(
-    rt: &impl Print,
-    s: &mut Session,
-    image: &mut [u8],
-    cache: &[u8],
-    line: &[u8],
-) -> io::Result<()> {
+fn step(rt: &impl Print, s: &mut Session, image: &mut [u8], cache: &[u8], line: &[u8]) {
     match (base::get(line, 0), base::get(line, 1)) {
         (b'o', _) => open(rt, s, image, cache, line),
         (b'r', _) => read(rt, s, image, cache, line),
@@ -338,29 +327,21 @@ fn step(
         (b'p', _) => poke(rt, image, line),
         (b'm', b'o') => mount(rt, s, image, cache),
         (b'm', _) => mkfs(rt, image, line),
-        _ => Ok(()),
+        _ => {}
     }
 }
 
-fn replay(
-    rt: &impl Print,
-    alloc: Global,
-    text: &[u8],
-    image: &mut [u8],
-    cache: &[u8],
-) -> io::Result<()> {
-    let mut s = unmounted(alloc, cache);
+fn replay(rt: &impl Print, text: &[u8], image: &mut [u8], cache: &[u8]) {
+    let mut s = unmounted(cache);
     for line in text.split(|x| *x == b'\n') {
-        step(rt, &mut s, image, cache, line)?;
+        step(rt, &mut s, image, cache, line);
     }
-    Ok(())
 }
 
-fn main(rt: HostRuntime) -> io::Result<()> {
-    let alloc = rt.alloc();
-    let mut text = Vec::new(alloc);
-    rt.reader().take(65536).read_to_end(&mut text)?;
+fn main(rt: HostRuntime) {
+    let mut text = [0u8; 65536];
+    let n = io::read_full(0, &mut text);
     let mut image = [0u8; 65536];
     let cache = [0u8; 30720];
-    replay(&rt, alloc, &text, &mut image, &cache)
+    replay(&rt, &text[..n], &mut image, &cache);
 }

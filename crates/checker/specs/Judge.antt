@@ -1,12 +1,12 @@
 -- What the checker's steps say of an image, and that a verdict which fits an image is the only one:
 -- `Sound` exactly for the sound images. Assumes nothing.
 use Rattle.std.specs.Prelude.{◌≡◌, refl, List, ℕ, zero, suc, ◌≤◌, length}
-use Rattle.std.proofs.Common.{sym, ap, ◌∙◌, arith}
+use Rattle.std.proofs.Common.{sym, ap, ◌∙◌, subst, arith}
 use Rattle.std.proofs.Math.Decide.{dec_lt}
 use borrow.Rule.Slice.PartMut.{put_mid}
 use Rattle.base.specs.Bytes.{Bytes, bytes, bytes_mid, put, put_over}
 use Rattle.superblock.specs.declared.Super.{Super}
-use Rattle.superblock.specs.Geometry.{super_of}
+use Rattle.superblock.specs.Geometry.{GoodNumbers, super_of}
 use Rattle.superblock.specs.Disk.{disk}
 use Rattle.rules.specs.declared.Rule.{Rule}
 use Rattle.rules.specs.declared.Rule.TheVariants.{S1, S2, S3, S4, S5, S6, S7}
@@ -29,6 +29,10 @@ pub record Lower (image : List ℕ) (s : Super) : Type 0 where
   pub s2 : rules.S2 (bytes image)
   pub s3 : rules.S3 s (disk s (bytes image))
   pub s4 : rules.S4 s (disk s (bytes image))
+
+-- its numbers are good, as a card of them asks
+pub good_numbers : (l : List ℕ) (s : Super) (w : Lower l s) → GoodNumbers s
+good_numbers l s w = subst (λ (x : Super). GoodNumbers x) (sym w.same) w.s1.good.numbers
 
 -- ---- the call
 

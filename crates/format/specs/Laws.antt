@@ -18,8 +18,15 @@ use Rattle.superblock.specs.Entry.{entry_bytes}
 use Rattle.format.specs.Formatted.{numbers_of, dot, dotdot, words, super_words, ones, root_node, root_block, zeros, fresh}
 
 -- an image that was zeroed from end to end
-pub all_zero : (l : List ℕ) (n : ℕ) → l ≡ replicate n 0 → bytes l ≡ zeros
-all_zero l n e = fun_ext (λ x. rw e (elim (dec_lt x n) [
+pub all_zero : (l : List ℕ) → put (bytes l) 0 (length l) (λ k. 0) ≡ zeros
+all_zero l = sym (is_put zeros (bytes l) 0 (length l) (λ k. 0) (λ k h. refl) (λ x o. sym (get_or-eq_default l 0 (past x o))))
+  where
+    past : (x : ℕ) → (0 ≤ x → x < 0 + length l → ⊥) → length l ≤ x
+    past x o = elim (dec_lt x (length l)) [ yes h ↦ absurd (o (omega arith) (omega arith)) | no h ↦ omega arith ]
+
+-- one that was filled with zeros
+pub filled_zero : (l : List ℕ) (n : ℕ) → l ≡ replicate n 0 → bytes l ≡ zeros
+filled_zero l n e = fun_ext (λ x. rw e (elim (dec_lt x n) [
   | yes h ↦ get_or-replicate {A = ℕ} n x 0 0 h
   | no h ↦ get_or-eq_default {A = ℕ} (replicate n 0) 0 {n = x} (omega (arith, length-replicate {A = ℕ} n 0))
 ]))

@@ -36,12 +36,19 @@ pub fn home_ok(card: &Card<'_>, j: usize, k: usize) -> bool
     card.kind(x) != 1 || x == 1 || card.num_of(x, 1) == j
 }
 
-// Its entries from the third on.
+// Its entries from the third on, of the first n.
+pub fn row_home(card: &Card<'_>, j: usize, n: usize) -> bool
+    requires { S3 card.now.sb (shown card.now) × (n ≤ 17152) }
+    ensures { Decides result ((k : ℕ) → 2 ≤ k → k < n → HomeOk (tree (shown card.now)) j k) }
+{
+    (2..n).all(|k| home_ok(card, j, k))
+}
+
 pub fn dir_home(card: &Card<'_>, j: usize) -> bool
     requires { S3 card.now.sb (shown card.now) }
     ensures { Decides result ((k : ℕ) → 2 ≤ k → HomeOk (tree (shown card.now)) j k) }
 {
-    (2..card.entries_of(j)).all(|k| home_ok(card, j, k))
+    row_home(card, j, card.entries_of(j))
 }
 
 pub fn all_home(card: &Card<'_>) -> bool

@@ -127,7 +127,7 @@ part_within l s e h = go (eqb (bytes l (start_of l)) 0) refl
         record { ordered = omega arith; inside = omega (arith, end_le l (start_of l) (start_le l)) }
 
 -- a path is too long exactly when its first 129 bytes are there and none is 0
-not_long : (l : List ℕ) (i x : ℕ) → i < 129 → x ≡ bytes l i → x ≡ 0 → Decides false (128 < path_len l)
+pub not_long : (l : List ℕ) (i x : ℕ) → i < 129 → x ≡ bytes l i → x ≡ 0 → Decides false (128 < path_len l)
 unfolding path_len
 not_long l i x h e z = not_so λ m.
     never (sym (first_before (λ k. eqb (bytes l k) 0) (length l) i (omega arith)) ∙ eq-eqb (bytes l i) 0 (sym e ∙ z))
@@ -136,7 +136,7 @@ pub short : (l : List ℕ) → length l ≤ 128 → Decides (ltb 128 (length l))
 unfolding path_len
 short l h = rw (le-ltb 128 (length l) h) (not_so λ m. omega (arith, first-le (λ k. eqb (bytes l k) 0) (length l)))
 
-long : (l : List ℕ) → ((k : ℕ) → k < 129 → bytes l k ≡ 0 → ⊥) → Decides true (128 < path_len l)
+pub long : (l : List ℕ) → ((k : ℕ) → k < 129 → bytes l k ≡ 0 → ⊥) → Decides true (128 < path_len l)
 unfolding path_len
 long l h = so (elim (dec_lt 128 (first (λ k. eqb (bytes l k) 0) (length l))) [
   | yes m ↦ m

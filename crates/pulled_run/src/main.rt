@@ -2,12 +2,11 @@
 // writes, then in a first and a second recovery after every number of their writes; a third mount finishes.
 //
 // A line for each k: what `end` answers (0 done, 19 cut) and the writes that it reports, then a letter for each pair of cuts, in groups by the
-// first recovery's: o where every home is as before, n where every home is new, x for anything else.
+// first recovery's: o where every home is as before, n where every home is new, x for anything else. What can't be written is passed over.
 #![tactic(auto)]
 
 use base::Refusal;
 use state::Volume;
-use std::io;
 use transactions::Written;
 
 // The homes that are recorded. The first is in buffer 29, the next in 28, and so on.
@@ -95,26 +94,24 @@ fn pulled(k: usize, i: usize, j: usize) -> Result<char, Refusal> {
 }
 
 // The second recovery cut after 0 to 5 writes.
-fn group(rt: &impl Print, k: usize, i: usize) -> io::Result<()> {
-    print!(rt; " ")?;
+fn group(rt: &impl Print, k: usize, i: usize) {
+    let _ = print!(rt; " ");
     for j in 0..6 {
-        print!(rt; "{}", pulled(k, i, j).unwrap_or('x'))?;
+        let _ = print!(rt; "{}", pulled(k, i, j).unwrap_or('x'));
     }
-    Ok(())
 }
 
-fn line(rt: &impl Print, k: usize) -> io::Result<()> {
+fn line(rt: &impl Print, k: usize) {
     let (number, writes) = reported(ended(k));
-    print!(rt; "{k}: {number} {writes}:")?;
+    let _ = print!(rt; "{k}: {number} {writes}:");
     for i in 0..6 {
-        group(rt, k, i)?;
+        group(rt, k, i);
     }
-    println!(rt)
+    let _ = println!(rt);
 }
 
-fn main(rt: HostRuntime) -> io::Result<()> {
+fn main(rt: HostRuntime) {
     for k in 0..12 {
-        line(&rt, k)?;
+        line(&rt, k);
     }
-    Ok(())
 }

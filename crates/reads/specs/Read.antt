@@ -1,5 +1,5 @@
 -- The parts of a disk as the code reads them. Assumes nothing.
-use Rattle.std.specs.Prelude.{◌≡◌, ◌⊎◌, cond, Option, MatchOption}
+use Rattle.std.specs.Prelude.{◌≡◌, ◌⊎◌, ◌&&◌, ltb, cond, Option, MatchOption}
 use Rattle.std.proofs.Math.Path.{refl, ap}
 use Rattle.std.proofs.Common.{sym, ◌∙◌, inl, inr}
 use Prim.Native.Nat.{ℕ, zero, suc, ◌+◌, ◌-◌, ◌*◌, ◌/◌, ◌%◌, ◌≤◌, ◌<◌}
@@ -40,7 +40,22 @@ pub record There (g : Super) (i a : ℕ) : Type 0 where
 abbrev pub InodeAt : Super → ℕ → Option ℕ → Type 0
 InodeAt g i r = MatchOption r (1 ≤ i → g.ninodes ≤ i) (There g i)
 
+-- n bytes of inode i from o on, 0 where there is no inode i
+unfoldable pub field : Super → Bytes → ℕ → ℕ → ℕ → ℕ
+field g d i o n = cond (ltb 0 i && ltb i g.ninodes) (get d (inode_addr g i + o) n) 0
+
 module _ (g : Super) (d : Bytes) (i : ℕ) where
+  pub field_there : (a o n m r : ℕ) → There g i a → r ≡ get d (a + o) n → r < m → Is r (field g d i o n) m
+  unfolding field
+  field_there a o n m r h e l = record { eq = rw (lt-ltb 0 i h.low, lt-ltb i g.ninodes h.high, ← h.eq) e; lt = l }
+
+  pub field_none : (o n m : ℕ) → 0 < m → (1 ≤ i → g.ninodes ≤ i) → Is 0 (field g d i o n) m
+  unfolding field
+  field_none o n m l h = record {
+    eq = elim (dec_lt 0 i) [ yes p ↦ rw (lt-ltb 0 i p, le-ltb i g.ninodes (h p)) refl | no p ↦ rw (le-ltb 0 i (omega arith)) refl ];
+    lt = l;
+  }
+
   -- there is no inode i
   pub ino_none : (1 ≤ i → g.ninodes ≤ i) → ino_of g d i ≡ no_node
   unfolding ino_of

@@ -22,7 +22,7 @@ impl Card<'_> {
     ghost use Rattle.rules.specs.Fit.{entry, held, slot_of};
     ghost use Rattle.rules.specs.Tree.{num_of};
     ghost use Rattle.rules.specs.Rules.{S3};
-    ghost use Rattle.reads.specs.Read.{Is, Ends, Spot, InodeAt, shown};
+    ghost use Rattle.reads.specs.Read.{Is, Ends, Spot, InodeAt, field, shown};
 
     // The first block of the data area.
     pub fn data_start(&self) -> usize
@@ -39,6 +39,27 @@ impl Card<'_> {
             Some(self.sb.inodestart as usize * 1024 + 64 * i)
         } else {
             None
+        }
+    }
+
+    // The number in the two or four bytes of inode i from byte o of it on, 0 where there is no such inode.
+    pub fn field2(&self, i: usize, o: usize) -> usize
+        requires { o < 64 }
+        ensures { Is result (field self.now.sb (bytes self.now.image.now) i o 2) 65536 }
+    {
+        match self.inode_at(i) {
+            Some(a) => base::get_u16(self.image, a + o) as usize,
+            None => 0,
+        }
+    }
+
+    pub fn field4(&self, i: usize, o: usize) -> usize
+        requires { o < 64 }
+        ensures { Is result (field self.now.sb (bytes self.now.image.now) i o 4) 4294967296 }
+    {
+        match self.inode_at(i) {
+            Some(a) => base::get_u32(self.image, a + o) as usize,
+            None => 0,
         }
     }
 

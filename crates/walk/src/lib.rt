@@ -92,8 +92,8 @@ pub fn last_in(
     requires { Lent s card.now.image.now card.now.cache.now × From s i }
     ensures { result ≡ last_in s (disk_by s card.now) i start end }
 {
-    let f = fetch_fit(card, s, i)?;
-    if !f.is(Kind::Directory) {
+    let parent = fetch_fit(card, s, i)?;
+    if !parent.is(Kind::Directory) {
         return Err(Refusal::NotDirectory);
     }
     Ok(Parent {
