@@ -2,7 +2,7 @@
 //
 // A line is `OP ARG ANSWER o0 .. o29`: OP 1 get, 2 release, 3 pin, 4 unpin; ARG the block of a get, the buffer of the others; ANSWER the buffer,
 // 255 where the Rust panics; then the order after the step. Byte i of the image is i / 1024, so that a buffer's bytes tell its block: after a get
-// they are compared too.
+// they are compared too. A read that fails ends the list, and what can't be written is passed over.
 #![tactic(auto)]
 
 ghost use Rattle.std.specs.Prelude.{◌≤◌, length};
@@ -10,6 +10,7 @@ ghost use Rattle.std.specs.Prelude.{◌≤◌, length};
 use base::Refusal;
 use bio::Table;
 use cache::After;
+use std::io::Read;
 
 // The numbers of a text, one after the other. What is no digit stands between them.
 #[derive(Drop)]
@@ -147,9 +148,24 @@ fn replay(text: &[u8], memory: &mut [u8], image: &[u8]) -> Tally {
     }
 }
 
+// Reads until the input ends, a read fails or the buffer is full; how many bytes came.
+fn read_all(input: &mut impl Read, buffer: &mut [u8]) -> usize
+    ensures { result ≤ length buffer.old }
+{
+    let mut n = 0;
+    for _ in 0..buffer.len() {
+        let got = input.read(&mut buffer[n..]).unwrap_or(0);
+        if got == 0 {
+            break;
+        }
+        n += got;
+    }
+    n
+}
+
 fn main(rt: HostRuntime) {
     let mut buffer = [0; 65536];
-    let n = io::read_full(0, &mut buffer);
+    let n = read_all(&mut rt.reader(), &mut buffer);
     let mut image = [0; 65536];
     for i in 0..65536 {
         image[i] = (i / 1024) as u8;

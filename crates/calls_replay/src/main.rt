@@ -5,7 +5,7 @@
 // is passed over. All memory is fixed: nothing can run out of it.
 #![tactic(auto)]
 
-ghost use Rattle.std.specs.Prelude.{◌≤◌, ◌<◌, ◌≡◌, length};
+ghost use Rattle.std.specs.Prelude.{◌<◌};
 
 use base::Refusal;
 use state::{Handle, Slots, Volume};
@@ -13,7 +13,7 @@ use std::fmt;
 use transactions::Written;
 use volume::Facts;
 
-// The volume, and the first `given` handles of 64, those given since mount; `from` is the number of the one that a relative path starts at. No Vec, since
+// The volume, and the handles given since mount, the first `given` of 64; `from` is the number of the one that a relative path starts at. No Vec, since
 // the program has no heap.
 #[derive(Clone, Copy)]
 struct Session {
