@@ -5,6 +5,7 @@
 ghost use Rattle.std.specs.Prelude.{◌≡◌, ◌≢◌, ℕ, ◌+◌, ◌*◌, ◌<◌, ◌≤◌};
 ghost use Rattle.base.specs.Bytes.{bytes};
 ghost use Rattle.base.specs.Decide.{Decides};
+ghost use Rattle.base.specs.Number.{get as num_at};
 ghost use Rattle.rules.specs.Tree.{tree, dots, SameName};
 ghost use Rattle.rules.specs.Rules.{S3, S5, Dir};
 ghost use Rattle.reads.specs.Read.{Spot, shown};
@@ -55,18 +56,42 @@ pub fn good_name(image: &[u8], a: usize) -> bool
     (0..14).all(|t| letter_ok(image, a, t))
 }
 
+// The number in the two, and in the four bytes at a. Where the sum can't wrap the length is asked for once and not twice: each pair of names in a directory
+// is compared by these.
+fn two_bytes(image: &[u8], a: usize) -> u16
+    requires { a < 8796093022208 }
+    ensures { result ≡ num_at (bytes image.now) a 2 }
+{
+    if a + 2 <= image.len() {
+        base::read_u16(image, a)
+    } else {
+        base::get_u16(image, a)
+    }
+}
+
+fn four_bytes(image: &[u8], a: usize) -> u32
+    requires { a < 8796093022208 }
+    ensures { result ≡ num_at (bytes image.now) a 4 }
+{
+    if a + 4 <= image.len() {
+        base::read_u32(image, a)
+    } else {
+        base::get_u32(image, a)
+    }
+}
+
 // The entry at b is free, or has another name than the one at a: most differ in the first eight bytes, which are compared as two numbers.
 pub fn differs(image: &[u8], a: usize, b: usize) -> bool
     requires { (a < 4398046511104) × (b < 4398046511104) }
     ensures { Decides result (Differs (bytes image.now) a b) }
 {
-    if base::get_u16(image, b) == 0 {
+    if two_bytes(image, b) == 0 {
         return true;
     }
-    if base::get_u32(image, a + 2) != base::get_u32(image, b + 2) {
+    if four_bytes(image, a + 2) != four_bytes(image, b + 2) {
         return true;
     }
-    if base::get_u32(image, a + 6) != base::get_u32(image, b + 6) {
+    if four_bytes(image, a + 6) != four_bytes(image, b + 6) {
         return true;
     }
     !same_names(image, a, b)
