@@ -56,8 +56,8 @@ pub fn good_name(image: &[u8], a: usize) -> bool
     (0..14).all(|t| letter_ok(image, a, t))
 }
 
-// The number in the two, and in the four bytes at a. Where the sum can't wrap the length is asked for once and not twice: each pair of names in a directory
-// is compared by these.
+// The number in the two, and in the four bytes at a. Where the image reaches, its length is asked for once and not twice, since the sum can't wrap: each pair
+// of names in a directory is compared by these.
 fn two_bytes(image: &[u8], a: usize) -> u16
     requires { a < 8796093022208 }
     ensures { result ≡ num_at (bytes image.now) a 2 }
